@@ -1,0 +1,4 @@
+pub mod Board
+pub mod Sound
+pub mod Answer
+pub mod Steps

@@ -1,0 +1,158 @@
+-- Laws of `part` and `bitonic` at a width w = 2^k whose half is w / 2: places lie below the width, and a layer's array by that of
+-- half the width. Assumes nothing.
+use mathlib.Core.Path.{_≡_, refl, sym, ap, _∙_}
+use mathlib.Core.Bool.{Bool, true, false, cond}
+use mathlib.Core.List.{List}
+use Prim.Native.Nat.{ℕ, zero, suc, _+_, _-_, _*_, _/_, _%_, _^_, _<_, _≤_}
+use native.Mathlib.Nat.{two-pow-succ}
+use native.Mathlib.Omega.{arith}
+use lib.Pow.{pow-mono}
+use lib.Dec.{ltb, eqb}
+use lib.ListN.{getD, replicate}
+use mathlib.Core.List.{_++_}
+use borrow.Author.Tests.{lt-ltb, le-ltb, eq-eqb, ne-eqb}
+use Rattle.network.specs.declared.Feed.{Feed}
+use Rattle.network.specs.declared.Feed.the-variants.{Merger, Block, Beside}
+use Rattle.network.specs.Widths.{depth, depthB, depthP}
+use Rattle.network.specs.Wiring.{feedAt, lastAt, part, bitonic, periodic, place}
+use Rattle.network.specs.Rows.{tabulate, arrayOf}
+use Rattle.network.proofs.Arrays.{RowIs, array-is, tabulate-ext}
+use Rattle.network.proofs.Feeds.{feed-below, feed-same, last-below}
+use Rattle.network.proofs.Widths.{depthB-more}
+
+cond-below : (b : Bool) {x y n : ℕ} → x < n → y < n → cond b x y < n
+cond-below true p q = p
+cond-below false p q = q
+
+-- ---- places lie below the width
+pub part-below : (s : Feed) (k L v : ℕ) → v < 2 ^ k → part s k L v < 2 ^ k
+unfolding part
+part-below s zero L v l = l
+part-below s (suc j) L v l =
+    let l₂ : v < 2 * 2 ^ j = omega (arith, two-pow-succ j) in
+    let below = cond-below (eqb L j) (last-below (2 ^ j) v l₂) (feed-below (cond (eqb L 0) s Beside) (2 ^ j) (part s j L) (part-below s j L) v l₂) in
+    omega (arith, two-pow-succ j, below)
+
+pub bitonic-below : (k L v : ℕ) → v < 2 ^ k → bitonic k L v < 2 ^ k
+unfolding bitonic
+bitonic-below zero L v l = l
+bitonic-below (suc j) L v l =
+    let l₂ : v < 2 * 2 ^ j = omega (arith, two-pow-succ j) in
+    let beside = feed-below Beside (2 ^ j) (bitonic j L) (bitonic-below j L) v l₂ in
+    cond-below (ltb L (depthB j)) (omega (arith, two-pow-succ j, beside)) (part-below Merger (suc j) (L - depthB j) v l)
+
+-- ---- a width and its half
+pub record Halved (k w : ℕ) : Type 0 where
+  pub half : w / 2 ≡ 2 ^ (k - 1)
+  pub whole : 2 * (w / 2) ≡ w
+  pub small : w / 2 ≤ 32
+
+pub halved : (k w : ℕ) → k ≤ 6 → w ≡ 2 ^ k → 0 < k → Halved k w
+halved zero w s q l = absurd (omega arith)
+halved (suc j) w s q l =
+    let e : suc j - 1 ≡ j = omega arith in
+    let few : j ≤ 5 = omega arith in
+    let most : 2 ^ j ≤ 2 ^ 5 = pow-mono few in
+    record { half = rw e (omega (arith, two-pow-succ j)); whole = omega (arith, two-pow-succ j); small = omega (arith, two-pow-succ j) }
+
+-- the same row under another name and another count
+pub array-as : (f g : ℕ → ℕ) {n m : ℕ} → n ≡ m → ((v : ℕ) → v < m → f v ≡ g v) → arrayOf f n ≡ arrayOf g m
+unfolding arrayOf
+array-as f g {n} {m} e h = rw (e, tabulate-ext f g m h)
+
+-- an inner row, and the row of the two halves that it feeds
+inner-is : (f : ℕ → ℕ) (n : ℕ) {a : List ℕ} → a ≡ arrayOf f n → (i : ℕ) → i < n → getD a i 0 ≡ f i
+inner-is f n e i l = rw e (array-is f n .at i l)
+
+-- ---- MERGER and BLOCK
+module _ (s : Feed) (k w L : ℕ) (few : k ≤ 6) (q : w ≡ 2 ^ k) (l : L < k) where
+  part-at : (v : ℕ) → part s k L v ≡ cond (eqb L (k - 1)) (lastAt (w / 2) v) (feedAt (cond (eqb L 0) s Beside) (w / 2) (part s (k - 1) L) v)
+  unfolding part
+  part-at v =
+      let e : k ≡ suc (k - 1) = omega arith in
+      let h = halved k w few q (omega arith) .half in
+      rw (h, ap (λ (n : ℕ). part s n L v) e)
+
+  -- the last layer
+  pub part-last : L + 1 ≡ k → arrayOf (lastAt (w / 2)) (2 * (w / 2)) ≡ arrayOf (part s k L) w
+  part-last e =
+      array-as (lastAt (w / 2)) (part s k L) (halved k w few q (omega arith) .whole)
+      (λ v m. sym (rw (eq-eqb L (k - 1) (omega arith)) at (part-at v)))
+
+  module _ (inner : List ℕ) (is : inner ≡ arrayOf (part s (k - 1) L) (w / 2)) where
+    -- the row of half the width has its places below the half
+    pub part-inner : (i : ℕ) → i < w / 2 → getD inner i 0 < w / 2
+    part-inner i m =
+        let h = halved k w few q (omega arith) .half in
+        rw (inner-is (part s (k - 1) L) (w / 2) is i m, h) (part-below s (k - 1) L i (rw h at m))
+
+    -- an earlier layer, by the row of half the width
+    pub part-fed : (t : Feed) → (L + 1 ≡ k → ⊥) → t ≡ cond (eqb L 0) s Beside → arrayOf (feedAt t (w / 2) (λ i. getD inner i 0)) (2 * (w / 2)) ≡ arrayOf (part s k L) w
+    part-fed t n p =
+        let h = halved k w few q (omega arith) in
+        array-as (feedAt t (w / 2) (λ i. getD inner i 0)) (part s k L) (h .whole)
+        (λ v m.
+        feed-same t (w / 2) (λ i. getD inner i 0) (part s (k - 1) L) (inner-is (part s (k - 1) L) (w / 2) is) v (omega (arith, h .whole))
+        ∙ sym (rw (ne-eqb L (k - 1) (λ e. n (omega arith)), ← p) at (part-at v)))
+
+-- ---- BITONIC
+-- what has a layer has a level
+pub bitonic-level : (k L : ℕ) → L < depthB k → 0 < k
+bitonic-level zero L l = absurd (omega arith)
+bitonic-level (suc j) L l = omega arith
+
+module _ (k w L b : ℕ) (few : k ≤ 6) (q : w ≡ 2 ^ k) (l : L < depthB k) (d : b ≡ depthB (k - 1)) where
+  some : 0 < k
+  some = bitonic-level k L l
+
+  bitonic-at : (v : ℕ) → bitonic k L v ≡ cond (ltb L b) (feedAt Beside (w / 2) (bitonic (k - 1) L) v) (part Merger k (L - b) v)
+  unfolding bitonic
+  bitonic-at v =
+      let e : k ≡ suc (k - 1) = omega (arith, some) in
+      let h = halved k w few q some .half in
+      rw (h, d, ap (λ (n : ℕ). bitonic n L v) e, ap (λ (n : ℕ). part Merger n (L - depthB (k - 1)) v) e)
+
+  module _ (low : L < b) (inner : List ℕ) (is : inner ≡ arrayOf (bitonic (k - 1) L) (w / 2)) where
+    pub bitonic-inner : (i : ℕ) → i < w / 2 → getD inner i 0 < w / 2
+    bitonic-inner i m =
+        let h = halved k w few q some .half in
+        rw (inner-is (bitonic (k - 1) L) (w / 2) is i m, h) (bitonic-below (k - 1) L i (rw h at m))
+
+    -- a layer of the two halves
+    pub bitonic-fed : arrayOf (feedAt Beside (w / 2) (λ i. getD inner i 0)) (2 * (w / 2)) ≡ arrayOf (bitonic k L) w
+    bitonic-fed =
+        let h = halved k w few q some in
+        array-as (feedAt Beside (w / 2) (λ i. getD inner i 0)) (bitonic k L) (h .whole)
+        (λ v m.
+        feed-same Beside (w / 2) (λ i. getD inner i 0) (bitonic (k - 1) L) (inner-is (bitonic (k - 1) L) (w / 2) is) v (omega (arith, h .whole))
+        ∙ sym (rw (lt-ltb L b low) at (bitonic-at v)))
+
+  module _ (high : b ≤ L) where
+    -- the layers after the halves are the merger's
+    pub merger-layer : L - b < k
+    merger-layer =
+        let e : k ≡ suc (k - 1) = omega (arith, some) in
+        omega (arith, depthB-more (k - 1), ap depthB e)
+
+    pub bitonic-merged : arrayOf (part Merger k (L - b)) w ≡ arrayOf (bitonic k L) w
+    bitonic-merged = array-as (part Merger k (L - b)) (bitonic k L) refl (λ v m. sym (rw (le-ltb L b high) at (bitonic-at v)))
+
+-- ---- either construction
+module _ (c k w L : ℕ) where
+  pub place-bitonic : c ≡ 1 → arrayOf (bitonic k L) w ≡ arrayOf (place c k L) w
+  unfolding place
+  place-bitonic e = array-as (bitonic k L) (place c k L) refl (λ v m. rw (eq-eqb c 1 e))
+
+  pub place-periodic : (c ≡ 1 → ⊥) → arrayOf (part Block k (L % k)) w ≡ arrayOf (place c k L) w
+  unfolding place periodic
+  place-periodic n = array-as (part Block k (L % k)) (place c k L) refl (λ v m. rw (ne-eqb c 1 n))
+
+pub depth-bitonic : (c k : ℕ) → c ≡ 1 → depth c k ≡ depthB k
+depth-bitonic c k e = rw (eq-eqb c 1 e)
+
+pub depth-periodic : (c k : ℕ) → (c ≡ 1 → ⊥) → depth c k ≡ depthP k
+depth-periodic c k n = rw (ne-eqb c 1 n)
+
+pub periodic-level : (k L : ℕ) → L < depthP k → 0 < k
+periodic-level zero L l = absurd (omega arith)
+periodic-level (suc j) L l = omega arith

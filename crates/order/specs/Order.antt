@@ -1,0 +1,19 @@
+-- Refusals in a fixed order (01, "Numbers of refusal"). Definitions only. Assumes nothing.
+use Prim.Native.Nat.{ℕ}
+use mathlib.Core.List.{List, [], _∷_}
+use mathlib.Core.Bool.{Bool, cond}
+
+-- a refusal: its condition and its number
+pub record Refusal : Type 0 where
+  pub when : Bool
+  pub number : ℕ
+
+abbrev pub _⟶_ : Bool → ℕ → Refusal
+b ⟶ n = record { when = b; number = n }
+
+infixr 20 _⟶_
+
+-- the number of the first whose condition holds, and 0, carried out, where none does
+unfoldable pub firstOf : List Refusal → ℕ
+firstOf [] = 0
+firstOf (r ∷ rest) = cond (r .when) (r .number) (firstOf rest)

@@ -1,0 +1,1 @@
+// An order of refusals: definitions and laws alone, no code.

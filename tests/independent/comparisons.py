@@ -1,0 +1,130 @@
+"""The comparisons of the independent program with another one.
+
+The other program is anything that takes the bytes of its standard input and
+gives the bytes of its standard output.
+"""
+
+import subprocess
+from collections import Counter
+
+from .console import Console
+from .differences import Difference, first_unequal, short, shrink
+from .listing import listing
+from .play import lines_of
+from .sheet_lines import sheet_lines
+
+LIMIT_SECONDS = 600
+
+
+class Program:
+    """A program of the cabinet's software, run anew at each call."""
+
+    def __init__(self, command):
+        self.command = command
+
+    def __call__(self, data):
+        try:
+            done = subprocess.run(self.command, input=data, stdout=subprocess.PIPE,
+                                  timeout=LIMIT_SECONDS, check=False)
+        except subprocess.TimeoutExpired:
+            raise Difference(f"{self.command[0]}: no end after {LIMIT_SECONDS} seconds") from None
+        return done.stdout
+
+
+def unlike(what, expected, found):
+    """The difference between two texts."""
+    return Difference(f"{what}\n  expected: {short(expected)}\n  found:    {short(found)}"
+                      + first_unequal(expected, found))
+
+
+def tally(refusals):
+    """The refusals met, in words."""
+    return ", ".join(f"{number}: {refusals[number]}" for number in sorted(refusals))
+
+
+def compare_sheets(text):
+    """All sheets and the refusals at bad arguments, line by line."""
+    expected, found = sheet_lines(), lines_of(text)
+    for line, (one, other) in enumerate(zip(expected, found)):
+        if one != other:
+            raise unlike(f"sheets: line {line + 1} differs", one, other)
+    if len(expected) != len(found):
+        raise Difference(f"sheets: expected {len(expected)} lines, found {len(found)}")
+    return f"{len(expected)} sheet lines equal"
+
+
+def compare_listing(program, files):
+    """The listing of each file, byte for byte."""
+    refusals = Counter()
+    for at, (name, parts, text) in enumerate(files):
+        if program(b"".join(parts)) != text.encode("ascii"):
+            raise listing_difference(program, f"listing: file {at} ({name}) differs", parts)
+        refusals[int(text.split()[1]) if text.startswith("refused") else 0] += 1
+    return f"{len(files)} listings equal; refusals {tally(refusals)}"
+
+
+def listing_difference(program, what, parts):
+    """The difference on the shortest file that is found by dropping parts of this one."""
+    def differs(fewer):
+        data = b"".join(fewer)
+        return program(data) != listing(data).encode("ascii")
+
+    data = b"".join(shrink(parts, differs))
+    return unlike(f"{what}; shortest file found, {len(data)} bytes: {short(data.hex() or '-')}",
+                  listing(data), program(data).decode("latin-1"))
+
+
+def same(line, expected, found):
+    """Whether the answer is the right one; `help` may use words of its own."""
+    return found.startswith("open") if line == "help" else found == expected
+
+
+def ask(program, lines):
+    """The program's answers to the lines."""
+    return lines_of(program("".join(line + "\n" for line in lines).encode("latin-1")))
+
+
+def compare_console(program, made):
+    """The answers to all lines, given to one program."""
+    lines = [line for line, _ in made]
+    answers = ask(program, lines)
+    refusals = Counter()
+    for at, (line, expected) in enumerate(made):
+        found = answers[at] if at < len(answers) else "(no answer)"
+        if not same(line, expected, found):
+            raise console_difference(program, f"console: the answer to line {at + 1} differs", lines[:at + 1])
+        refusals.update(refusal_of(line, expected))
+    if len(answers) != len(lines):
+        raise Difference(f"console: {len(lines)} lines, but {len(answers)} answers")
+    return f"{len(lines)} console lines equal; refusals {tally(refusals)}"
+
+
+def refusal_of(line, answer):
+    """The refusal number in an answer, if it has one."""
+    if answer == "?" or line.split(" ")[0] in ("record", "set", "help"):
+        return []
+    return [int(answer.split(" ")[0])]
+
+
+def console_difference(program, what, lines):
+    """The difference at the last line, with as few lines before it as are found to show it."""
+    *earlier, last = lines
+
+    def answers_to(before):
+        found = ask(program, before + [last])[len(before):]
+        console = Console()
+        for line in before:
+            console.answer(line)
+        return console.answer(last), found[0] if found else "(no answer)"
+
+    def differs(before):
+        return not same(last, *answers_to(before))
+
+    resets = [at for at, line in enumerate(earlier) if line.split(" ")[0] in ("open", "set")]
+    for before in ([], earlier[resets[-1]:] if resets else earlier):
+        if differs(before):
+            earlier = before
+            break
+    earlier = shrink(earlier, differs)
+    shown = "".join(f"\n  > {short(line)}" for line in earlier + [last])
+    return unlike(f"{what}; shortest lines found:{shown}", *answers_to(earlier))

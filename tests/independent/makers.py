@@ -1,0 +1,17 @@
+"""The seeded makers: the same seed and size give the same files and lines."""
+
+import random
+
+from . import file_makers, line_makers
+from .listing import listing
+
+
+def schedule_files(seed, size):
+    """So many schedule files: (name, parts, the text of their listing)."""
+    rng = random.Random(f"files {seed}")
+    return [(name, parts, listing(b"".join(parts))) for name, parts in file_makers.files(rng, size)]
+
+
+def console_lines(seed, size):
+    """So many console lines: (line, answer)."""
+    return line_makers.lines(random.Random(f"lines {seed}"), size)

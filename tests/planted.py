@@ -1,0 +1,82 @@
+"""Show that the comparison can fail.
+
+Each fault is planted in a temporary copy of the independent program, which is
+then compared with the true one on the same files, lines and plays. One line
+for each fault says what caught it; the end is 1 if one was not caught.
+"""
+
+import importlib
+import shutil
+import sys
+import tempfile
+from pathlib import Path
+
+sys.dont_write_bytecode = True
+HERE = Path(__file__).resolve().parent
+sys.path[0] = str(HERE)
+
+from independent import comparisons, makers
+from independent.differences import Difference
+from planted_faults import FAULTS
+
+SEED, FILES, LINES, PLAYS = 1, 200, 4000, 56
+
+
+def copy_with(folder, name, module, changes):
+    """A copy of the package under the name, with the changes made in the module."""
+    shutil.copytree(HERE / "independent", folder / name, ignore=shutil.ignore_patterns("__pycache__"))
+    path = folder / name / f"{module}.py"
+    text = path.read_text(encoding="utf-8")
+    for true, false in changes:
+        if text.count(true) != 1:
+            raise SystemExit(f"{module}.py has {text.count(true)} times, not once: {true}")
+        text = text.replace(true, false)
+    path.write_text(text, encoding="utf-8")
+    importlib.invalidate_caches()
+
+
+def comparison(name, files, lines):
+    """The comparisons of the true program with the copy, each as (what, call)."""
+    play = importlib.import_module(f"{name}.play")
+    promises = importlib.import_module(f"{name}.promises")
+    return (
+        ("sheets", lambda: comparisons.compare_sheets(play.play_sheets())),
+        ("listing", lambda: comparisons.compare_listing(play.play_listing, files)),
+        ("console", lambda: comparisons.compare_console(play.play_console, lines)),
+        ("promises", lambda: promises.check_promises(SEED, PLAYS)),
+    )
+
+
+def caught_by(name, files, lines):
+    """What the comparison finds first in the copy, in words; None where it finds nothing."""
+    for what, compare in comparison(name, files, lines):
+        try:
+            compare()
+        except Exception as found:
+            words = " ".join(str(found).split()) or type(found).__name__
+            return what, words if len(words) <= 150 else words[:150] + " .."
+    return None
+
+
+def main():
+    """Plant each fault in turn."""
+    files, lines = makers.schedule_files(SEED, FILES), makers.console_lines(SEED, LINES)
+    missed = 0
+    with tempfile.TemporaryDirectory() as temporary:
+        folder = Path(temporary)
+        sys.path.insert(0, temporary)
+        copy_with(folder, "unchanged", "run", [])
+        found = caught_by("unchanged", files, lines)
+        if found:
+            raise SystemExit(f"a copy without a fault differs: {found}")
+        for number, (fault, module, changes) in enumerate(FAULTS):
+            copy_with(folder, f"planted_{number}", module, changes)
+            found = caught_by(f"planted_{number}", files, lines)
+            missed += found is None
+            print(f"caught by {found[0]}: {fault} | {found[1]}" if found else f"NOT CAUGHT: {fault}", flush=True)
+    print(f"{len(FAULTS) - missed} of {len(FAULTS)} planted faults caught")
+    return 1 if missed else 0
+
+
+if __name__ == "__main__":
+    sys.exit(main())
