@@ -17,14 +17,35 @@ sys.path[0] = str(HERE)
 
 from independent import comparisons, makers
 from independent.differences import Difference
-from planted_faults import FAULTS
 
 SEED, FILES, LINES, PLAYS = 1, 200, 4000, 56
+LONGEST = 150
+
+
+def planted_faults():
+    """The faults, each as (what is wrong, module, pairs of the true text and the false one)."""
+    faults = []
+    before = ""
+    for line in (HERE / "planted_faults.txt").read_text(encoding="utf-8").splitlines():
+        mark, text = line[:2], line[2:]
+        if line.startswith("fault "):
+            module, _, what = line[len("fault "):].partition(": ")
+            faults.append((what, module, []))
+        elif mark == "- " and before == "- ":
+            faults[-1][2][-1][0].append(text)
+        elif mark == "- ":
+            faults[-1][2].append(([text], []))
+        elif mark == "+ ":
+            faults[-1][2][-1][1].append(text)
+        before = mark
+    return [(what, module, [("\n".join(true), "\n".join(false)) for true, false in changes])
+            for what, module, changes in faults]
 
 
 def copy_with(folder, name, module, changes):
     """A copy of the package under the name, with the changes made in the module."""
-    shutil.copytree(HERE / "independent", folder / name, ignore=shutil.ignore_patterns("__pycache__"))
+    shutil.copytree(HERE / "independent", folder / name,
+                    ignore=shutil.ignore_patterns("__pycache__"))
     path = folder / name / f"{module}.py"
     text = path.read_text(encoding="utf-8")
     for true, false in changes:
@@ -35,33 +56,43 @@ def copy_with(folder, name, module, changes):
     importlib.invalidate_caches()
 
 
+def stopping(play):
+    """The program, which gives nothing where its fault stops it."""
+    def program(data=b""):
+        try:
+            return play(data)
+        except Exception:
+            return b""
+    return program
+
+
 def comparison(name, files, lines):
     """The comparisons of the true program with the copy, each as (what, call)."""
     play = importlib.import_module(f"{name}.play")
     promises = importlib.import_module(f"{name}.promises")
     return (
-        ("sheets", lambda: comparisons.compare_sheets(play.play_sheets())),
-        ("listing", lambda: comparisons.compare_listing(play.play_listing, files)),
-        ("console", lambda: comparisons.compare_console(play.play_console, lines)),
+        ("sheets", lambda: comparisons.compare_sheets(stopping(play.play_sheets)())),
+        ("listing", lambda: comparisons.compare_listing(stopping(play.play_listing), files)),
+        ("console", lambda: comparisons.compare_console(stopping(play.play_console), lines)),
         ("promises", lambda: promises.check_promises(SEED, PLAYS)),
     )
 
 
 def caught_by(name, files, lines):
-    """What the comparison finds first in the copy, in words; None where it finds nothing."""
+    """What finds a difference in the copy first, and the difference; None where nothing does."""
     for what, compare in comparison(name, files, lines):
         try:
             compare()
         except Exception as found:
             words = " ".join(str(found).split()) or type(found).__name__
-            return what, words if len(words) <= 150 else words[:150] + " .."
+            return what, words if len(words) <= LONGEST else words[:LONGEST] + " .."
     return None
 
 
 def main():
     """Plant each fault in turn."""
     files, lines = makers.schedule_files(SEED, FILES), makers.console_lines(SEED, LINES)
-    missed = 0
+    faults, missed = planted_faults(), 0
     with tempfile.TemporaryDirectory() as temporary:
         folder = Path(temporary)
         sys.path.insert(0, temporary)
@@ -69,12 +100,13 @@ def main():
         found = caught_by("unchanged", files, lines)
         if found:
             raise SystemExit(f"a copy without a fault differs: {found}")
-        for number, (fault, module, changes) in enumerate(FAULTS):
+        for number, (fault, module, changes) in enumerate(faults):
             copy_with(folder, f"planted_{number}", module, changes)
             found = caught_by(f"planted_{number}", files, lines)
             missed += found is None
-            print(f"caught by {found[0]}: {fault} | {found[1]}" if found else f"NOT CAUGHT: {fault}", flush=True)
-    print(f"{len(FAULTS) - missed} of {len(FAULTS)} planted faults caught")
+            print(f"caught by {found[0]}: {fault} | {found[1]}" if found
+                  else f"NOT CAUGHT: {fault}", flush=True)
+    print(f"{len(faults) - missed} of {len(faults)} planted faults caught")
     return 1 if missed else 0
 
 

@@ -32,9 +32,10 @@ def view_line(rng):
     width, construction = edges.any_width(rng), edges.any_construction(rng)
     size = sheet_size(width, construction)
     layers = size // width if width else 0
-    layer = rng.choice((0, max(layers - 1, 0), max(layers - 1, 0), layers, rng.randrange(layers + 1), edges.u16(rng)))
-    lengths = [rng.choice((0, max(size - 1, 0), size, size, size, size + 1, 2304)) for _ in range(2)]
-    return f"view {width} {construction} {layer} {lengths[0]} {lengths[1]}"
+    last = max(layers - 1, 0)
+    layer = rng.choice((0, last, last, layers, rng.randrange(layers + 1), edges.u16(rng)))
+    lengths = (0, max(size - 1, 0), size, size, size, size + 1, 2304)
+    return f"view {width} {construction} {layer} {rng.choice(lengths)} {rng.choice(lengths)}"
 
 
 def fields(rng, kind):
@@ -106,7 +107,7 @@ def spoiled(rng, line):
         line[:at] + mark + line[at:],
         line[:at] + mark + line[at + 1:],
         re.sub("[0-9]+", lambda found: "000" + found[0], line, count=1),
-        re.sub("[0-9]+(?=[^0-9]*$)", lambda found: str(rng.choice((65536, 65537, 2**32, 10**10))), line),
+        re.sub("[0-9]+(?=[^0-9]*$)", str(rng.choice((65536, 65537, 2**32, 10**10))), line),
         line + rng.choice((" ", " 0", " -", "\r")),
         " " + line,
     ))

@@ -21,6 +21,7 @@ if not __package__:
 from . import comparisons, makers
 from .differences import Difference
 from .facts import check_facts
+from .maker_checks import check_makers
 from .promises import check_promises
 
 ROOT = Path(__file__).resolve().parents[2]
@@ -29,17 +30,22 @@ SIZES = {"facts": 1, "sheets": 1, "listing": 300, "console": 10_000, "promises":
 
 def arguments():
     """The command line."""
-    parser = argparse.ArgumentParser(description=__doc__, formatter_class=argparse.RawDescriptionHelpFormatter)
+    parser = argparse.ArgumentParser(description=__doc__,
+                                     formatter_class=argparse.RawDescriptionHelpFormatter)
     parser.add_argument("what", choices=tuple(SIZES), metavar="WHAT", help=", ".join(SIZES))
     parser.add_argument("--seed", type=int, default=1, help="the makers' seed (1)")
-    parser.add_argument("--size", type=int, help="how many files (300), lines (10000) or plays (2800)")
+    parser.add_argument("--size", type=int,
+                        help="how many files (300), lines (10000) or plays (2800)")
     parser.add_argument("--text", type=Path, help="for sheets: a file with the text")
     parser.add_argument("--program", nargs=argparse.REMAINDER, metavar="PATH",
-                        help="the program and its arguments, last of all (bin/listing, bin/console)")
+                        help="the program and its arguments, last of all on the line "
+                             "(bin/listing, bin/console)")
     given = parser.parse_args()
     if given.size is not None and given.size < 1:
         parser.error("--size is at least 1")
-    if given.what == "sheets" and (given.text is None) == (not given.program):
+    if given.program == []:
+        parser.error("--program needs a PATH")
+    if given.what == "sheets" and (given.text is None) == (given.program is None):
         parser.error("sheets needs one of --text FILE and --program PATH")
     if given.what != "sheets" and given.text is not None:
         parser.error("--text is for sheets")
@@ -50,7 +56,7 @@ def compare(given):
     """The comparison that is asked for; in words, what was found equal."""
     size = given.size or SIZES[given.what]
     if given.what == "facts":
-        return check_facts()
+        return f"{check_facts()}; {check_makers()}"
     if given.what == "promises":
         return check_promises(given.seed, size)
     if given.what == "sheets":

@@ -92,7 +92,8 @@ def compare_console(program, made):
     for at, (line, expected) in enumerate(made):
         found = answers[at] if at < len(answers) else "(no answer)"
         if not same(line, expected, found):
-            raise console_difference(program, f"console: the answer to line {at + 1} differs", lines[:at + 1])
+            what = f"console: the answer to line {at + 1} differs"
+            raise console_difference(program, what, lines[:at + 1])
         refusals.update(refusal_of(line, expected))
     if len(answers) != len(lines):
         raise Difference(f"console: {len(lines)} lines, but {len(answers)} answers")

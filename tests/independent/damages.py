@@ -76,7 +76,8 @@ def unknown_kind(rng, records):
 
 def number_record(rng, records):
     """A kind 5 record inside the schedule."""
-    return insert(rng, records, record_bytes(NUMBER, edges.u16(rng), edges.u16(rng), edges.u32(rng)))
+    record = record_bytes(NUMBER, edges.u16(rng), edges.u16(rng), edges.u32(rng))
+    return insert(rng, records, record)
 
 
 def no_open(rng, records):
@@ -111,17 +112,17 @@ def end_early(rng, records):
 
 def after_close(rng, records):
     """Bytes after close, whatever they are."""
-    more = rng.choice((b"\0", b"\x08\0\1", record_bytes(TURN, 0), record_bytes(CLOSE, 0), records[-1],
-                       b"\x06\0\x03\0\0", b"\x04\0\xff\xff", record_bytes(NUMBER, 0, 0, 0), rng.randbytes(9)))
-    return records + [more]
+    more = (b"\0", b"\x08\0\1", b"\x06\0\x03\0\0", b"\x04\0\xff\xff", rng.randbytes(9), records[-1],
+            record_bytes(TURN, 0), record_bytes(CLOSE, 0), record_bytes(NUMBER, 0, 0, 0))
+    return records + [rng.choice(more)]
 
 
 def wrong_count(rng, records):
     """The close has a wrong count, at times with bytes behind it."""
     count = read_record(records[-1])[3][0]
-    wrong = rng.choice([n for n in (count + 1, max(count, 1) - 1, count + 65536, count + 2**24, 2**32 - 1)
-                        if n != count])
-    return records[:-1] + [record_bytes(CLOSE, wrong)] + rng.choice(([], [b"\0"], [records[-1]]))
+    wrong = [count + 1, count + 65536, count + 2**24, 2**32 - 1] + [count - 1] * (count > 0)
+    close = record_bytes(CLOSE, rng.choice(wrong))
+    return records[:-1] + [close] + rng.choice(([], [b"\0"], [records[-1]]))
 
 
 def close_inside(rng, records):

@@ -27,8 +27,8 @@ def first_unequal(expected, found):
               min(len(expected), len(found)))
     if max(len(expected), len(found)) <= 100:
         return ""
-    around = slice(max(0, at - 20), at + 40)
-    return f"\n  they part at character {at}: expected ..{expected[around]}.. found ..{found[around]}.."
+    near = slice(max(0, at - 20), at + 40)
+    return f"\n  they part at character {at}: ..{expected[near]}.. and ..{found[near]}.."
 
 
 def shrink(parts, differs, tries=TRIES):

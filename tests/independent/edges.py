@@ -57,4 +57,6 @@ def token(rng, likely=()):
     chance = rng.random()
     if likely and chance < 0.6:
         return rng.choice(likely)
-    return rng.randrange(256) if chance < 0.8 else rng.choice((0, 1, 254, 255, 256, 257, 511, 65535))
+    if chance < 0.8:
+        return rng.randrange(256)
+    return rng.choice((0, 1, 254, 255, 256, 257, 511, 65535))

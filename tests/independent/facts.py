@@ -1,13 +1,17 @@
 """The paper's small facts, and some readings, checked over the independent program."""
 
+import random
+
 from . import networks, run
 from .differences import must_equal
-from .file_makers import CASE
+from .file_makers import CASE as CASE_RECORDS
 from .listing import listing
 from .networks import BITONIC, PERIODIC, WIDTHS, depth, rows
 from .promises import share
+from .record_makers import sound_unreached
 from .records import FIELDS, LENGTHS, read_record, record_bytes
 
+CASE = b"".join(CASE_RECORDS)
 LISTED = "network 2 bitonic\n5 1 1\n9 0 0\nrest 2\n"
 
 
@@ -20,7 +24,8 @@ def facts_of_wiring():
     """Facts 1 to 6."""
     must_equal("fact 1", [[0, 1, 2, 3], [0, 2, 3, 1], [0, 2, 1, 3]],
                [row(4, BITONIC, layer) for layer in range(3)])
-    must_equal("fact 2", [[0, 2, 3, 1], [0, 2, 1, 3]] * 2, [row(4, PERIODIC, layer) for layer in range(4)])
+    must_equal("fact 2", [[0, 2, 3, 1], [0, 2, 1, 3]] * 2,
+               [row(4, PERIODIC, layer) for layer in range(4)])
     must_equal("fact 3", [0, 4, 2, 6, 7, 3, 5, 1], row(8, BITONIC, 3))
     must_equal("fact 4", [0, 2, 4, 6, 1, 3, 5, 7], row(8, BITONIC, 5))
     must_equal("fact 5", [0, 4, 6, 2, 3, 7, 5, 1], row(8, PERIODIC, 0))
@@ -52,7 +57,8 @@ def facts_of_schedules():
     must_equal("fact 10, three bytes", "refused 11 0 0\n", listing(b"\x08\x00\x01"))
     must_equal("an open alone", "refused 14 1 8\n", listing(CASE[:8]))
     must_equal("a byte after close", f"refused 14 8 {len(CASE)}\n", listing(CASE + b"\0"))
-    must_equal("a wrong close and a byte", "refused 15 7 48\n", listing(CASE[:-4] + b"\3\0\0\0" + b"\0"))
+    must_equal("a wrong close and a byte", "refused 15 7 48\n",
+               listing(CASE[:-4] + b"\3\0\0\0" + b"\0"))
     must_equal("length 65,535", "refused 12 1 8\n", listing(CASE[:8] + b"\xff\xff\x03\0"))
     must_equal("65,537 bytes", "refused 16 0 0\n", listing(bytes(65_537)))
     must_equal("no entries", "network 64 periodic\nrest 0\n",
@@ -65,7 +71,8 @@ def widths_and_depths():
         for construction in (BITONIC, PERIODIC):
             found = rows(width, construction)
             must_equal(f"layers at width {width}", depth(width, construction), len(found))
-            must_equal(f"rows at width {width}", [list(range(width))] * len(found), [sorted(r) for r in found])
+            must_equal(f"rows at width {width}", [list(range(width))] * len(found),
+                       [sorted(row_found) for row_found in found])
             drawing = networks.Drawing()
             build = drawing.bitonic if construction == BITONIC else drawing.periodic
             must_equal(f"exits at width {width}", (len(found), list(range(width))),
@@ -79,14 +86,33 @@ def unsound_records():
     must_equal("soundness of a refused opening", False, run.sound(run.opening(3, 1)[1]))
     record = run.Run(4, BITONIC, 0)
     record.counts[:2] = [2**32 - 1, 1]
-    must_equal("a sum of 2^32", ["sum", ], run.broken(record))
+    must_equal("a sum of 2^32", ["sum"], run.broken(record))
     record = run.Run(4, BITONIC, 5)
     record.counts[3] = 5
-    must_equal("missing below 19", [v for v in range(19) if v % 4 != 3], run.missing_numbers(record))
+    must_equal("missing below 19", [v for v in range(19) if v % 4 != 3],
+               run.missing_numbers(record))
     must_equal("how many", 15, run.missing_count(record))
     record = run.Run(64, PERIODIC, 1_000_000)
     record.counts[63] = 1_000_000
     must_equal("millions missing", 63_000_000, run.missing_count(record))
+
+
+def gap_lists():
+    """The gap list by its words: v is missing when exit v mod w has dealt at most v div w."""
+    rng = random.Random("gap lists")
+    for _ in range(200):
+        record = sound_unreached(rng, total=rng.randrange(600))
+        dealt = [i + record.width * c for i, n in enumerate(record.counts) for c in range(n)]
+        listed = [v for v in range(max(dealt, default=0))
+                  if record.counts[v % record.width] <= v // record.width]
+        must_equal("the gap list", listed, run.missing_numbers(record))
+        lent = [7] * (len(listed) + 2)
+        must_equal("the gap list's answer", (0, len(listed)), run.gap_list(record, lent))
+        must_equal("the gap list as lent", listed + [7, 7], lent)
+        if listed:
+            lent = [7] * (len(listed) - 1)
+            must_equal("room too small", (17, 0), run.gap_list(record, lent))
+            must_equal("room too small, as lent", [7] * (len(listed) - 1), lent)
 
 
 def round_trips():
@@ -96,12 +122,13 @@ def round_trips():
             fields = (value,) * len(sizes)
             data = record_bytes(kind, *fields)
             must_equal("length of a record", LENGTHS[kind], len(data))
-            must_equal("a record read back", (0, kind, len(data), fields), read_record(data + b"\xff"))
+            must_equal("a record read back", (0, kind, len(data), fields),
+                       read_record(data + b"\xff"))
 
 
 def check_facts():
     """All of them; in words, what was done."""
-    checks = (facts_of_wiring, facts_of_runs, facts_of_schedules, widths_and_depths, unsound_records, round_trips)
-    for check in checks:
+    for check in (facts_of_wiring, facts_of_runs, facts_of_schedules, widths_and_depths,
+                  unsound_records, gap_lists, round_trips):
         check()
     return "the eleven facts of the paper and the readings hold"

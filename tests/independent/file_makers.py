@@ -9,8 +9,9 @@ from .schedule_makers import whole
 # Width, construction and entries of schedules that are exactly 65,536 bytes long.
 EXACT = ((1, BITONIC, 4680), (1, PERIODIC, 4680), (2, BITONIC, 3276), (2, PERIODIC, 3276),
          (32, BITONIC, 630), (64, BITONIC, 468))
-CASE = bytes.fromhex("0800010002000100" "0800020005000000" "0800020009000100" "060003000900"
-                     "060003000500" "060003000500" "060003000900" "0800040002000000")
+CASE = [bytes.fromhex(record) for record in (
+    "0800010002000100", "0800020005000000", "0800020009000100", "060003000900",
+    "060003000500", "060003000500", "060003000900", "0800040002000000")]
 
 
 def fixed_files():
@@ -19,7 +20,7 @@ def fixed_files():
     entered = opened + record_bytes(ENTER, 7, 3)
     closed = record_bytes(CLOSE, 0)
     return [
-        ("the paper's case", [CASE]),
+        ("the paper's case", CASE),
         ("empty", []),
         ("three bytes", [b"\x08\x00\x01"]),
         ("open alone", [opened]),
@@ -64,7 +65,8 @@ def small_file(rng, damage):
 def files(rng, size):
     """So many files, as (name, list of parts): the fixed ones, some large, every damage in turn."""
     made = fixed_files()
-    made += [(f"accepted, width {w}", whole(rng, w, c)) for w in WIDTHS for c in (BITONIC, PERIODIC)]
+    made += [(f"accepted, width {width}", whole(rng, width, construction))
+             for width in WIDTHS for construction in (BITONIC, PERIODIC)]
     made += [("accepted, 65,536 bytes", whole(rng, *EXACT[-1]))]
     choices = (None, None, None, *DAMAGES)
     for turn in range(size - len(made)):

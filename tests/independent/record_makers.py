@@ -51,7 +51,7 @@ def sound_unreached(rng, width=None, total=None, crowd=None):
     density = rng.choice((0, 0, 0.02, 0.5, 1))
     run.toggles[:cells] = [rng.random() < density for _ in range(cells)]
     crowd = rng.choice((0, 1, 2, 5, 40, 256)) if crowd is None else crowd
-    for token in {0, 255, *rng.sample(range(256), crowd)} if crowd > 2 else rng.sample(range(256), crowd):
+    for token in rng.sample(range(256), crowd) + [0, 255] * (crowd > 2):
         level = rng.choice((0, layers, rng.randrange(layers + 1)))
         wire = rng.choice((0, run.width - 1, rng.randrange(run.width)))
         run.places[token] = (True, level, wire)

@@ -14,7 +14,6 @@ use Rattle.network.specs.declared.Feed.the-variants.{Merger, Block, Besi
 use Rattle.network.specs.declared.Fed.{Fed}
 use Rattle.network.specs.Wiring.{fedOf, through, feedAt, lastAt, part, bitonic, periodic, place}
 use Rattle.network.specs.Widths.{depthB}
-
 use Rattle.network.proofs.Feeds.{lt-or-le, fed-below, feed-below, last-below}
 
 -- f takes the numbers below n to the numbers below n, each once: it has an inverse there

@@ -1,15 +1,18 @@
 -- Laws of widths and depths: an allowed width is a power of two, a network that has a layer has an allowed width, and all is
 -- small. Assumes nothing.
 use mathlib.Core.Path.{_≡_, refl, sym, ap, _∙_}
-use mathlib.Core.Bool.{Bool, true, false, cond, _||_}
+use mathlib.Core.Bool.{Bool, true, false, not, cond, _||_}
+use mathlib.Core.List.{List, [], _∷_}
 use mathlib.Core.Logic.{⊎-elim}
 use Prim.Native.Nat.{ℕ, zero, suc, _+_, _*_, _/_, _^_, _<_, _≤_}
 use native.Mathlib.Nat.{mul-le-mul, two-pow-succ, suc-mul, mul-add, mul-one}
 use native.Mathlib.Omega.{arith}
 use lib.Pow.{pow-mono}
 use lib.Dec.{eqb}
-use borrow.Author.Tests.{eqb-true, eqb-false}
-use Rattle.network.specs.Widths.{widthOk, levels, depthB, depthP, depth, depthOf}
+use borrow.Author.Tests.{eqb-true, eqb-false, not-false}
+use Rattle.order.specs.Order.{Refusal, _⟶_, firstOf}
+use Rattle.order.proofs.Order.{cleared}
+use Rattle.network.specs.Widths.{widthOk, constructionOk, openNo, levels, depthB, depthP, depth, depthOf}
 
 -- ---- a table of powers: the k of the first that w is, else r
 module _ (w : ℕ) where
@@ -105,3 +108,30 @@ layered w c L l =
     even-power : (k w : ℕ) → 0 < k → w ≡ 2 ^ k → w ≡ 2 * (w / 2)
     even-power zero w l e = absurd (omega arith)
     even-power (suc j) w l e = omega (arith, two-pow-succ j)
+
+-- ---- refusals that begin with those of an opening
+pub record Allowed (w c : ℕ) : Type 0 where
+  pub width : widthOk w ≡ true
+  pub construction : constructionOk c ≡ true
+
+pub allowed : (w c : ℕ) → openNo w c ≡ 0 → Allowed w c
+unfolding openNo
+allowed w c h =
+    let one = cleared (not (widthOk w)) 0 _ h in
+    let two = cleared (not (constructionOk c)) 1 _ (one .then) in
+    record { width = not-false (widthOk w) (one .fails); construction = not-false (constructionOk c) (two .fails) }
+
+openings : (a b : Bool) (rest : List Refusal) → (firstOf ((a ⟶ 1) ∷ (b ⟶ 2) ∷ []) ≡ 0 → ⊥) → firstOf ((a ⟶ 1) ∷ (b ⟶ 2) ∷ rest) ≡ firstOf ((a ⟶ 1) ∷ (b ⟶ 2) ∷ [])
+unfolding firstOf
+openings true b rest h = refl
+openings false true rest h = refl
+openings false false rest h = absurd (h refl)
+
+module _ (w c : ℕ) (rest : List Refusal) where
+  pub open-refused : (openNo w c ≡ 0 → ⊥) → openNo w c ≡ firstOf ((not (widthOk w) ⟶ 1) ∷ (not (constructionOk c) ⟶ 2) ∷ rest)
+  unfolding openNo
+  open-refused h = sym (openings (not (widthOk w)) (not (constructionOk c)) rest h)
+
+  pub open-allowed : openNo w c ≡ 0 → firstOf ((not (widthOk w) ⟶ 1) ∷ (not (constructionOk c) ⟶ 2) ∷ rest) ≡ firstOf rest
+  unfolding firstOf
+  open-allowed h = let a = allowed w c h in rw (a .width, a .construction)

@@ -2,6 +2,8 @@
 use Prim.Native.Nat.{ℕ}
 use mathlib.Core.List.{List, [], _∷_}
 use mathlib.Core.Bool.{Bool, cond}
+use lib.Dec.{eqb}
+use Rattle.order.specs.declared.Filled.{Filled}
 
 -- a refusal: its condition and its number
 pub record Refusal : Type 0 where
@@ -12,8 +14,11 @@ abbrev pub _⟶_ : Bool → ℕ → Refusal
 b ⟶ n = record { when = b; number = n }
 
 infixr 20 _⟶_
-
 -- the number of the first whose condition holds, and 0, carried out, where none does
 unfoldable pub firstOf : List Refusal → ℕ
 firstOf [] = 0
 firstOf (r ∷ rest) = cond (r .when) (r .number) (firstOf rest)
+
+-- what a call that fills a lent buffer answers: n where it was carried out, and 0 where it was refused
+abbrev pub filledOf : ℕ → ℕ → Filled
+filledOf number n = record { refusal = number; filled = cond (eqb number 0) n 0 }
