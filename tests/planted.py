@@ -16,9 +16,9 @@ HERE = Path(__file__).resolve().parent
 sys.path[0] = str(HERE)
 
 from independent import comparisons, makers
-from independent.differences import Difference
+from independent.play import lines_of
 
-SEED, FILES, LINES, PLAYS = 1, 200, 4000, 56
+SEED, FILES, LINES, PLAYS = 1, 100, 2000, 28
 LONGEST = 150
 
 
@@ -66,6 +66,19 @@ def stopping(play):
     return program
 
 
+def stopping_console(console_type):
+    """The console program, which answers no more lines where its fault stops it."""
+    def program(data):
+        console, answers = console_type(), []
+        try:
+            for line in lines_of(data):
+                answers.append(console.answer(line))
+        except Exception:
+            pass
+        return "".join(answer + "\n" for answer in answers).encode("ascii")
+    return program
+
+
 def comparison(name, files, lines):
     """The comparisons of the true program with the copy, each as (what, call)."""
     play = importlib.import_module(f"{name}.play")
@@ -73,7 +86,7 @@ def comparison(name, files, lines):
     return (
         ("sheets", lambda: comparisons.compare_sheets(stopping(play.play_sheets)())),
         ("listing", lambda: comparisons.compare_listing(stopping(play.play_listing), files)),
-        ("console", lambda: comparisons.compare_console(stopping(play.play_console), lines)),
+        ("console", lambda: comparisons.compare_console(stopping_console(play.Console), lines)),
         ("promises", lambda: promises.check_promises(SEED, PLAYS)),
     )
 

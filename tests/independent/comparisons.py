@@ -93,7 +93,7 @@ def compare_console(program, made):
         found = answers[at] if at < len(answers) else "(no answer)"
         if not same(line, expected, found):
             what = f"console: the answer to line {at + 1} differs"
-            raise console_difference(program, what, lines[:at + 1])
+            raise console_difference(program, what, lines[:at + 1], (expected, found))
         refusals.update(refusal_of(line, expected))
     if len(answers) != len(lines):
         raise Difference(f"console: {len(lines)} lines, but {len(answers)} answers")
@@ -107,7 +107,7 @@ def refusal_of(line, answer):
     return [int(answer.split(" ")[0])]
 
 
-def console_difference(program, what, lines):
+def console_difference(program, what, lines, met):
     """The difference at the last line, with as few lines before it as are found to show it."""
     *earlier, last = lines
 
@@ -126,6 +126,9 @@ def console_difference(program, what, lines):
         if differs(before):
             earlier = before
             break
+    else:
+        if not differs(earlier):
+            return unlike(f"{what}, but not when asked again; the line: {short(last)}", *met)
     earlier = shrink(earlier, differs)
     shown = "".join(f"\n  > {short(line)}" for line in earlier + [last])
     return unlike(f"{what}; shortest lines found:{shown}", *answers_to(earlier))

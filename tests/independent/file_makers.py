@@ -34,6 +34,8 @@ def fixed_files():
         ("body cut", [opened, closed[:7]]),
         ("length 65,535", [opened, b"\xff\xff" + closed[2:]]),
         ("length 0 of an unknown kind", [opened, bytes(4)]),
+        ("kind 257", [opened, b"\x08\0\x01\1" + bytes(4), closed]),
+        ("kind 259", [opened, b"\x06\0\x03\1" + bytes(2), closed]),
         ("kind 5", [opened, LENGTHS[5].to_bytes(2, "little") + b"\x05\0" + bytes(8), closed]),
         ("kind 5 cut", [opened, b"\x0c\0\x05\0"]),
         ("one byte after close", [opened, closed, b"\0"]),

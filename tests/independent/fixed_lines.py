@@ -46,7 +46,34 @@ turn 9
 gaps 65536
 set 4 1 1000001 0=1000001 - -
 enter 256 0
+turn 256
 gaps 0
+set 3 1 0 - - -
+set 4 3 0 - - -
+set 4 1 1 - - 0=1/4/0
+turn 0
+set 4 1 1 - - 0=1/3/4
+turn 0
+set 4 1 1 - - 0=1/3/3
+turn 0
+set 4 1 0 - - 0=0/1/0
+set 4 1 0 - - 255=0/0/1
+set 4 1 1 4=1 - -
+set 4 1 0 - 6 -
+set 4 1 0 - 5 -
+set 4 1 0 - 1151 -
+set 64 2 0 - 1151 -
+set 64 1 0 - 672 -
+set 64 1 0 - 671 -
+set 4 1 1 - - -
+set 4 1 0 - - 0=1/0/0
+set 4 1 0 0=4294967295,1=1 - -
+set 4 1 999999 0=999999 - -
+enter 0 3
+enter 1 3
+set 1 2 1 - - 5=1/0/0
+turn 5
+record
 sheet 4 1 12
 sheet 4 1 11
 sheet 1 2 0

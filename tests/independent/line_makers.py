@@ -5,8 +5,11 @@ from .call_makers import (enter_line, gaps_line, read_line, run_line, sheet_line
                           turn_line, view_line, write_line)
 from .console import Console
 from .fixed_lines import FIXED
+from .networks import BITONIC
 from .record_makers import UNSOUND, reached, sound_unreached
+from .schedule_makers import whole
 from .words import record_text
+
 
 class Lines:
     """Lines and their answers, made against the record that the console then holds."""
@@ -21,8 +24,11 @@ class Lines:
         self.made.append((line, self.console.answer(line)))
 
     def fixed(self):
-        """The lines that are always there."""
+        """The lines that are always there, and a schedule of exactly 65,536 bytes."""
         for line in FIXED:
+            self.add(line)
+        largest = b"".join(whole(self.rng, 1, BITONIC, 4680)).hex()
+        for line in (f"run 56160 {largest}", f"run 56159 {largest}", f"run 65536 {largest}00"):
             self.add(line)
         self.add("record")
 
@@ -66,7 +72,7 @@ class Lines:
 
 
 def lines(rng, size):
-    """About so many lines with their answers."""
+    """So many lines with their answers."""
     made = Lines(rng)
     made.fixed()
     while len(made.made) < size:
@@ -77,4 +83,4 @@ def lines(rng, size):
         made.on_record(rng.choice(tuple(UNSOUND.values())))
         for _ in range(2):
             made.others()
-    return made.made[:max(size, 1)]
+    return made.made[:size]

@@ -1,4 +1,8 @@
-"""The seeded makers: the same seed and size give the same files and lines."""
+"""The seeded makers: the same seed and size give the same files and lines.
+
+Schedules whole and damaged are in `schedule_makers` and `damages`, run records
+reached, unreached and unsound in `record_makers`, single calls in `call_makers`.
+"""
 
 import random
 

@@ -81,7 +81,7 @@ class Play:
 
 
 def chooser(rng):
-    """How a play picks the next token inside: any, the oldest, the newest, or by fits."""
+    """How a play picks the next token inside: any, the oldest, the newest, or one of two."""
     return rng.choice((rng.choice, lambda tokens: tokens[0], lambda tokens: tokens[-1],
                        lambda tokens: rng.choice(tokens[:2])))
 
@@ -92,21 +92,22 @@ def interleaving(rng, width, construction):
     crowd = rng.choice((1, 2, 3, 5, 8, 20, 256 if rng.random() < 0.2 else 10))
     requests = rng.randrange(1, max(4, 600 // play.own_turns)) + (crowd if crowd > 20 else 0)
     pick, wires = chooser(rng), min(width, rng.choice((1, 2, width)))
-    for left in range(requests, 0, -1):
+    rests = rng.choice((0, 0, 1 / requests))
+    for _ in range(requests):
         play.enter(rng.choice(play.free()), rng.randrange(wires))
         while len(play.turns) >= crowd or rng.random() < 0.5 * len(play.turns) / crowd:
             play.turn(pick(list(play.turns)))
-        if rng.random() < 1 / left:
+        if rng.random() < rests:
             play.drain(rng)
     return play
 
 
 def stalled_requests(rng, width, construction):
-    """Requests that never move again keep no other from its number."""
+    """Requests that never move again keep no other from its number; whether there were any."""
     play = interleaving(rng, width, construction)
     stalled = rng.sample(sorted(play.turns), rng.randrange(len(play.turns) + 1))
-    later = rng.sample(play.free(), 5)
-    for token in later:
+    free = play.free()
+    for token in rng.sample(free, min(5, len(free))):
         play.enter(token, rng.randrange(width))
     play.drain(rng, stalled)
     must_equal("inside when the others are done", sorted(stalled), sorted(play.turns))
@@ -115,10 +116,11 @@ def stalled_requests(rng, width, construction):
         raise Difference("a record reached is not sound")
     play.drain(rng)
     must_equal("places at rest", Run().places, play.run.places)
+    return bool(stalled)
 
 
 def one_after_another(rng, width, construction):
-    """One after another they come out on exits 0, 1, 2 .. and are dealt 0, 1, 2 .."""
+    """One after another they come out on exits 0, 1, 2 .. and are dealt 0, 1, 2 ..; none stalls."""
     play = Play(width, construction)
     for m in range(rng.randrange(1, 2 * width + 4)):
         token = rng.randrange(256)
@@ -126,17 +128,20 @@ def one_after_another(rng, width, construction):
         for _ in range(play.own_turns):
             answer = play.turn(token)
         must_equal(f"request {m}, one after another", (0, "dealt", m % width, m), answer)
+    return False
 
 
 def check_promises(seed, size):
     """So many plays, spread over all networks; in words, what was done."""
     rng = random.Random(f"promises {seed}")
+    stalled = 0
     for number in range(size):
         width, construction = NETWORKS[number % len(NETWORKS)]
         play = one_after_another if number // len(NETWORKS) % 8 == 7 else stalled_requests
         try:
-            play(rng, width, construction)
+            stalled += play(rng, width, construction)
         except Difference as found:
             raise Difference(f"promises: play {number} of seed {seed}, width {width} "
                              f"{NAMES[construction]}: {found}") from None
-    return f"{size} plays over {len(NETWORKS)} networks, every promise kept after every move"
+    return (f"{size} plays over {len(NETWORKS)} networks, {stalled} of them with requests that "
+            "stall, every promise kept after every move")

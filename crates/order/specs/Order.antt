@@ -1,6 +1,7 @@
--- Refusals in a fixed order (01, "Numbers of refusal"). Definitions only. Assumes nothing.
+-- Refusals in a fixed order, and lent buffers (01, "Numbers of refusal"). Definitions only. Assumes nothing.
 use Prim.Native.Nat.{ℕ}
-use mathlib.Core.List.{List, [], _∷_}
+use mathlib.Core.List.{List, [], _∷_, _++_}
+use lib.ListN.{length, drop}
 use mathlib.Core.Bool.{Bool, cond}
 use lib.Dec.{eqb}
 use Rattle.order.specs.declared.Filled.{Filled}
@@ -22,3 +23,7 @@ firstOf (r ∷ rest) = cond (r .when) (r .number) (firstOf rest)
 -- what a call that fills a lent buffer answers: n where it was carried out, and 0 where it was refused
 abbrev pub filledOf : ℕ → ℕ → Filled
 filledOf number n = record { refusal = number; filled = cond (eqb number 0) n 0 }
+
+-- a lent buffer with a list in front; the rest of it stays
+abbrev pub over : {A : Type 0} → List A → List A → List A
+over l out = l ++ drop (length l) out

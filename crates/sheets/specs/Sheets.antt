@@ -2,10 +2,10 @@
 use Prim.Native.Nat.{ℕ, _+_, _*_}
 use mathlib.Core.Path.{_≡_}
 use mathlib.Core.Bool.{Bool, not, cond}
-use mathlib.Core.List.{List, [], _∷_, _++_}
+use mathlib.Core.List.{List, [], _∷_}
 use lib.Dec.{leb, ltb, eqb}
 use lib.ListN.{length, take, drop}
-use Rattle.order.specs.Order.{_⟶_, firstOf, filledOf}
+use Rattle.order.specs.Order.{_⟶_, firstOf, filledOf, over}
 use Rattle.order.specs.declared.Filled.{Filled}
 use Rattle.network.specs.Widths.{widthOk, constructionOk, depthOf}
 use Rattle.network.specs.Rows.{sheetOf}
@@ -22,7 +22,7 @@ sheetNo w c room =
 -- what is answered, and the lent bytes after it: further bytes stay, and a refusal changes nothing
 pub record SheetIs (w c : ℕ) (before after : List ℕ) (r : Filled) : Type 0 where
   pub answer : r ≡ filledOf (sheetNo w c (length before)) (sheetLength w c)
-  pub bytes : after ≡ cond (eqb (sheetNo w c (length before)) 0) (sheetOf w c ++ drop (sheetLength w c) before) before
+  pub bytes : after ≡ cond (eqb (sheetNo w c (length before)) 0) (over (sheetOf w c) before) before
 
 -- ---- the view: 1; 2; 10 layer not below depth; 3 of the chosen sheet only, which has n bytes
 unfoldable pub viewNo : ℕ → ℕ → ℕ → ℕ → ℕ

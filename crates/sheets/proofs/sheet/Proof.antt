@@ -5,6 +5,7 @@ use denote.Ref.{now}
 use borrow.Author.Needs.{needs}
 use borrow.Author.Tests.{eq-eqb, ne-eqb}
 use Rattle.network.specs.Rows.{sheetOf}
+use Rattle.network.proofs.Rows.{length-sheet}
 use Rattle.sheets.specs.Sheets.{sheetNo, sheetLength}
 use Rattle.sheets.proofs.Sheets.{sheet-room}
 use Rattle.sheets.proofs.sheet.Statement.{statement}
@@ -43,7 +44,7 @@ returns-2 c =
     let z = served (d .before) in
     record {
       answer = rw (z, d .before .if1 .left, ← c .sheet-length .ensures);
-      bytes = rw z (c .before .before .before .put-rows .ensures ∙ rw (d .depth-of .ensures));
+      bytes = rw (z, length-sheet) (c .before .before .before .put-rows .ensures ∙ rw (d .depth-of .ensures));
     }
 
 pub sheet-spec : {M : Type 1} → statement M

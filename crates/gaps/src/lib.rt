@@ -1,0 +1,1 @@
+// The gap list of a run.

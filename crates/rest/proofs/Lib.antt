@@ -1,0 +1,10 @@
+pub mod Sum
+pub mod Flow
+pub mod Share
+pub mod Step
+pub mod Layers
+pub mod Parts
+pub mod Bitonic
+pub mod Periodic
+pub mod Rest
+pub mod Cases

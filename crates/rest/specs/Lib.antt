@@ -1,0 +1,4 @@
+pub mod Sum
+pub mod Flow
+pub mod Share
+pub mod Rest

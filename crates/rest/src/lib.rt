@@ -1,0 +1,1 @@
+// Networks at rest: definitions and laws alone, no code.
