@@ -18,17 +18,22 @@ fn hex(bytes: &[u8]) {
     io::write_all(1, b"\n");
 }
 
-// One call, on a lent buffer of `room` bytes, at most 2,400.
+// One call, and its line.
+fn show_in(width: u16, construction: u16, out: &mut [u8]) {
+    let done = sheets::sheet(width, construction, out);
+    io::write_all(1, b"sheet ");
+    number(width as u64);
+    number(construction as u64);
+    number(done.refusal as u64);
+    number(done.filled as u64);
+    hex(out);
+}
+
+// The same on a buffer of `room` bytes, at most 2,400.
 fn show(width: u16, construction: u16, room: usize) {
     let mut buffer = [170u8; 2400];
     if room <= 2400 {
-        let done = sheets::sheet(width, construction, &mut buffer[..room]);
-        io::write_all(1, b"sheet ");
-        number(width as u64);
-        number(construction as u64);
-        number(done.refusal as u64);
-        number(done.filled as u64);
-        hex(&buffer[..room]);
+        show_in(width, construction, &mut buffer[..room]);
     }
 }
 
