@@ -1,7 +1,7 @@
 -- Fields of two and four bytes, little-endian (01, "Schedule bytes"). Definitions only. Assumes nothing.
 use Prim.Native.Nat.{ℕ, zero, suc, _+_, _*_, _/_, _%_}
-use mathlib.Core.List.{List, [], _∷_}
-use lib.ListN.{take, drop}
+use mathlib.Core.List.{List, [], _∷_, _++_}
+use lib.ListN.{length, take, drop}
 
 -- the number that bytes spell, the lowest first
 unfoldable pub spelt : List ℕ → ℕ
@@ -16,3 +16,7 @@ field n s at = spelt (take n (drop at s))
 unfoldable pub bytesIn : ℕ → ℕ → List ℕ
 bytesIn zero x = []
 bytesIn (suc n) x = x % 256 ∷ bytesIn n (x / 256)
+
+-- a buffer with bytes at a place of it; what stands before and behind them stays
+unfoldable pub placed : List ℕ → ℕ → List ℕ → List ℕ
+placed out at bytes = take at out ++ (bytes ++ drop (at + length bytes) out)

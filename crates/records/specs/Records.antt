@@ -53,14 +53,14 @@ readOf reports s =
     cond (eqb (readNo reports s) 0) (Got (recordIn (kindIn s) s) (lengthOf (kindIn s))) (Refused (readNo reports s))
 
 -- ---- writing
-unfoldable pub kindOf : Record → ℕ
+abbrev pub kindOf : Record → ℕ
 kindOf (Open w c) = 1
 kindOf (Enter t v) = 2
 kindOf (Turn t) = 3
 kindOf (Close e) = 4
 kindOf (Number t v n) = 5
 
-unfoldable pub fieldsOf : Record → List ℕ
+abbrev pub fieldsOf : Record → List ℕ
 fieldsOf (Open w c) = bytesIn 2 w ++ bytesIn 2 c
 fieldsOf (Enter t v) = bytesIn 2 t ++ bytesIn 2 v
 fieldsOf (Turn t) = bytesIn 2 t
@@ -86,6 +86,10 @@ over bytes out = bytes ++ drop (length bytes) out
 
 unfoldable pub writtenOf : Record → List ℕ → List ℕ
 writtenOf r out = cond (eqb (writeNo r (length out)) 0) (over (bytesOf r) out) out
+
+pub record Writes (item : Record) (before : List ℕ) (r : Written) (after : List ℕ) : Type 0 where
+  pub answer : r ≡ writeOf item (length before)
+  pub buffer : after ≡ writtenOf item before
 
 -- ---- the round trips; the fields of a record are of 16 and 32 bits
 unfoldable pub fits : Record → Bool

@@ -40,7 +40,7 @@ module _ (w : ℕ) (pos : 0 < w) where
         | no e ↦ omega arith
       ]
 
-  share-at : (m : ℕ) → share m (m % w) w ≡ m / w
+  pub share-at : (m : ℕ) → share m (m % w) w ≡ m / w
   share-at m = eq-by-lt (share m (m % w) w) (m / w)
       (λ q h. lt-of-mul-lt-mul-right w (omega (arith, share-lt m (m % w) q h, div-add-mod' m w)))
       (λ q h. lt-share m (m % w) q (omega (arith, mul-le-mul-right {m = suc q} w h, div-add-mod' m w)))

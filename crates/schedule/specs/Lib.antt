@@ -1,2 +1,4 @@
 pub mod Step
 pub mod Schedule
+pub mod Pass
+pub mod Facts

@@ -1,5 +1,6 @@
 -- Running a schedule, on its bytes (01, "Schedule bytes" and "Numbers of refusal"). Definitions only. Assumes nothing.
 use Prim.Native.Nat.{ℕ, zero, suc, _+_}
+use mathlib.Core.Path.{_≡_}
 use mathlib.Core.List.{List, [], _++_}
 use mathlib.Core.Bool.{Bool, false, cond}
 use lib.ListN.{length, drop}
@@ -69,6 +70,11 @@ afterRun (Refused k n at) reports out = out
 
 unfoldable pub outputOf : List ℕ → List ℕ → List ℕ
 outputOf s out = afterRun (runOf s (length out)) (tell s .reports) out
+
+-- the outcome r of running a schedule, and the output out′ after it
+pub record Ran (s out : List ℕ) (r : Outcome) (out′ : List ℕ) : Type 0 where
+  pub outcome : r ≡ runOf s (length out)
+  pub output : out′ ≡ outputOf s out
 
 -- ---- the document's number and values for each outcome; what an outcome does not have is 0
 pub record Values : Type 0 where

@@ -53,6 +53,9 @@ stepOf x (Turn t) =
 stepOf x (Close e) = inPhase 1 x (cond (closes (x .run) e) (silent 0 (course 2 (x .run))) (silent 15 x))
 stepOf x (Number t v n) = silent 13 x
 
--- the kind 5 record of a number dealt
+-- the bytes of a report, where there is one: the kind 5 record of a number dealt
+unfoldable pub reportIf : Bool → Record → List ℕ
+reportIf dealt r = cond dealt (bytesOf r) []
+
 unfoldable pub reportOf : Step → List ℕ
-reportOf s = cond (s .dealt) (bytesOf (Number (s .token) (s .exit) (s .number))) []
+reportOf s = reportIf (s .dealt) (Number (s .token) (s .exit) (s .number))

@@ -1,0 +1,44 @@
+-- `board::pass` meets its contract. Assumes nothing.
+use borrow.Author.Needs.{needs}
+use Rattle.board.specs.Board.{downAt}
+use Rattle.board.specs.Steps.{passing}
+use Rattle.board.proofs.pass.Statement.{statement}
+use Rattle.board.proofs.pass.Tie as tie
+
+cell-at-requires : tie.Need-cell-at-requires
+cell-at-requires c κs = search needs
+
+toggle-at-requires : tie.Need-toggle-at-requires
+toggle-at-requires c κs = search needs
+
+outlet-requires : tie.Need-outlet-requires
+outlet-requires c κs = search needs
+
+add-level : tie.Need-add-level
+add-level c = search needs
+
+put-toggle-requires : tie.Need-put-toggle-requires
+put-toggle-requires c κs = search needs
+
+mul-t18 : tie.Need-mul-t18
+mul-t18 c = search needs
+
+element-set-from-board : tie.Need-element-set-from-board
+element-set-from-board c = search needs
+
+returns : tie.Need-returns
+unfolding passing downAt
+returns c = rw (← c .before .before .before .before .before .before .before .before .pre .1 .0, c .put-toggle .ensures, c .before .before .before .outlet .ensures, c .before .before .before .before .toggle-at .ensures, c .before .before .before .before .before .before .before .cell-at .ensures)
+
+pub pass-spec : {M : Type 1} → statement M
+pass-spec =
+    tie.close
+    (tie.spec
+    cell-at-requires
+    toggle-at-requires
+    outlet-requires
+    add-level
+    put-toggle-requires
+    mul-t18
+    element-set-from-board
+    returns)

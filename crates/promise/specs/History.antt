@@ -1,0 +1,64 @@
+-- Histories (01, "A run"): a list of calls from an opening, and the numbers dealt on the way. Each call is made by the very
+-- definition that its contract cites. Definitions only. Assumes nothing.
+use Prim.Native.Nat.{ℕ, _+_}
+use mathlib.Core.Bool.{cond}
+use mathlib.Core.List.{List, [], _∷_, _++_}
+use Rattle.rest.specs.Sum.{only}
+use Rattle.board.specs.Sound.{sumOf}
+use Rattle.board.specs.Answer.{Values, valuesOf}
+use Rattle.run.specs.declared.Run.{Run}
+use Rattle.run.specs.Run.{openOf, enterOf, turnOf}
+
+-- a call: enter, with token and wire, or a turn, with token
+pub data Call : Type 0 where
+  enter : ℕ → ℕ → Call
+  turn : ℕ → Call
+
+-- a number dealt: to which token, and at which exit
+pub record Deal : Type 0 where
+  pub token : ℕ
+  pub exit : ℕ
+  pub number : ℕ
+
+-- what comes of calls: the run after them, and the numbers dealt, in the order of dealing
+pub record After : Type 0 where
+  pub run : Run
+  pub deals : List Deal
+
+-- the number that a turn of token t dealt, if it dealt one, as the values of its answer say
+abbrev pub dealOf : ℕ → Values → List Deal
+dealOf t a = cond (a .dealt) (record { token = t; exit = a .exit; number = a .number } ∷ []) []
+
+-- one call. That a refused call changes nothing is part of `enterOf` and `turnOf`.
+unfoldable pub callOf : Run → Call → After
+callOf x (enter t v) = record { run = enterOf x t v .run; deals = [] }
+callOf x (turn t) = record { run = turnOf x t .run; deals = dealOf t (valuesOf (turnOf x t .answer)) }
+
+-- calls one after another
+unfoldable pub callsOf : Run → List Call → After
+callsOf x [] = record { run = x; deals = [] }
+callsOf x (call ∷ rest) =
+    let first = callOf x call in
+    let then = callsOf (first .run) rest in
+    record { run = then .run; deals = first .deals ++ then .deals }
+
+-- calls from the opening of width w and construction c
+unfoldable pub history : ℕ → ℕ → List Call → After
+history w c calls = callsOf (openOf w c .run) calls
+
+-- how often the number v was dealt
+unfoldable pub times : ℕ → List Deal → ℕ
+times v deals = sumOf (λ e. only (e .number) v 1) deals
+
+-- how many numbers were dealt to token t, and how many at exit i
+unfoldable pub dealtTo : ℕ → List Deal → ℕ
+dealtTo t deals = sumOf (λ e. only (e .token) t 1) deals
+
+unfoldable pub dealtAt : ℕ → List Deal → ℕ
+dealtAt i deals = sumOf (λ e. only (e .exit) i 1) deals
+
+-- how many of the calls are turns of token t
+unfoldable pub turnsOf : ℕ → List Call → ℕ
+turnsOf t [] = 0
+turnsOf t (enter u v ∷ rest) = turnsOf t rest
+turnsOf t (turn u ∷ rest) = only u t 1 + turnsOf t rest

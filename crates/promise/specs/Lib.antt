@@ -1,0 +1,4 @@
+pub mod History
+pub mod Promise
+pub mod Own
+pub mod Further

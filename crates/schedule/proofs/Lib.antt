@@ -1,0 +1,6 @@
+mod Ready
+mod Reports
+mod Told
+mod Loop
+mod Whole
+pub mod Facts

@@ -1,0 +1,78 @@
+-- Reports. In order: a report has at most 12 bytes; what noting one comes to, dealt or not, written or not; the output with the
+-- reports done so far, and with one more. Assumes nothing.
+use mathlib.Core.Path.{_≡_, refl, _∙_, ap}
+use mathlib.Core.Bool.{Bool, true, false, cond}
+use mathlib.Core.List.{List, [], _++_}
+use Prim.Native.Nat.{ℕ, _+_, _≤_}
+use native.Mathlib.Nat.{add-zero}
+use native.Mathlib.Omega.{arith}
+use lib.ListN.{length, take-append-drop, length-append, length-drop}
+use Rattle.records.specs.declared.Record.{Record}
+use Rattle.records.specs.declared.Record.the-variants.{Open, Enter, Turn, Close, Number}
+use Rattle.records.specs.Fields.{placed}
+use Rattle.records.specs.Records.{lengthOf, sizeOf, bytesOf, over}
+use Rattle.records.proofs.Writing.{length-bytesOf, over-more}
+use Rattle.schedule.specs.declared.Step.{Step}
+use Rattle.schedule.specs.Step.{reportIf, reportOf}
+use Rattle.schedule.specs.Pass.{RoomFor, Noted}
+
+pub size-most : (r : Record) → sizeOf r ≤ 12
+unfolding sizeOf lengthOf
+size-most (Open w c) = omega arith
+size-most (Enter t v) = omega arith
+size-most (Turn t) = omega arith
+size-most (Close e) = omega arith
+size-most (Number t v n) = omega arith
+
+length-reportIf : (b : Bool) (r : Record) → length (reportIf b r) ≤ 12
+unfolding reportIf
+length-reportIf true r = rw length-bytesOf (size-most r)
+length-reportIf false r = omega arith
+
+pub length-reportOf : (y : Step) → length (reportOf y) ≤ 12
+unfolding reportOf
+length-reportOf y = length-reportIf (y .dealt) _
+
+-- ---- a report noted
+placed-none : (out : List ℕ) (at : ℕ) (w : Bool) → out ≡ cond w (placed out at []) out
+unfolding placed
+placed-none out at true = rw (add-zero, take-append-drop)
+placed-none out at false = refl
+
+module _ (out : List ℕ) (filled : ℕ) (writing : Bool) (r : Record) where
+  pub noted-none : (b : Bool) → b ≡ false → Noted (reportIf b r) writing filled out filled out
+  unfolding reportIf
+  noted-none b e = rw e (record { counted = omega arith; output = placed-none out filled writing })
+
+  module _ (b : Bool) (dealt : b ≡ true) where
+    pub room-report : RoomFor (reportIf b r) writing filled out → writing ≡ true → filled + sizeOf r ≤ length out
+    unfolding reportIf
+    room-report room e = rw (dealt, length-bytesOf) at (room .enough e)
+
+    module _ (m : ℕ) (size : m ≡ sizeOf r) where
+      counted-report : filled + m ≡ filled + length (reportIf b r)
+      unfolding reportIf
+      counted-report = rw (dealt, length-bytesOf, size)
+
+      pub noted-unwritten : writing ≡ false → Noted (reportIf b r) writing filled out (filled + m) out
+      noted-unwritten e = record { counted = counted-report; output = rw e }
+
+      pub noted-written : writing ≡ true → (out′ : List ℕ) → out′ ≡ placed out filled (bytesOf r) → Noted (reportIf b r) writing filled out (filled + m) out′
+      unfolding reportIf
+      noted-written e out′ h = record { counted = counted-report; output = rw (e, dealt, h) }
+
+-- ---- the output with the reports done in front
+pub over-none : (w : Bool) (out : List ℕ) → out ≡ cond w (over [] out) out
+over-none true out = refl
+over-none false out = refl
+
+pub over-next : (w : Bool) (out₀ out out′ done report : List ℕ) (at : ℕ) → length done ≡ at → out ≡ cond w (over done out₀) out₀
+    → out′ ≡ cond w (placed out at report) out → out′ ≡ cond w (over (done ++ report) out₀) out₀
+over-next true out₀ out out′ done report at l e f = f ∙ rw (e, ← l) (over-more out₀ done report)
+over-next false out₀ out out′ done report at l e f = f ∙ e
+
+pub length-over : (w : Bool) (done out : List ℕ) → (w ≡ true → length done ≤ length out) → length (cond w (over done out) out) ≡ length out
+length-over true done out h =
+    let fits = h refl in
+    simp (length-append, length-drop) (omega arith)
+length-over false done out h = refl
