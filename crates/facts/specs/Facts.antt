@@ -1,9 +1,20 @@
 -- The small facts of document 01, numbered as there. Definitions only. Assumes nothing.
 use mathlib.Core.Path.{_≡_}
-use mathlib.Core.List.{[], _∷_}
-use Prim.Native.Nat.{_+_}
+use mathlib.Core.List.{List, [], _∷_, _++_, map}
+use Prim.Native.Nat.{ℕ, _+_, _<_}
 use Rattle.network.specs.Widths.{depthOf}
 use Rattle.network.specs.Rows.{rowOf, sheetOf}
+use Rattle.rest.specs.Share.{share}
+use Rattle.run.specs.declared.Opened.{Opened}
+use Rattle.run.specs.declared.Entered.{Entered}
+use Rattle.run.specs.Run.{openOf, enterOf}
+use Rattle.schedule.specs.declared.Outcome.the-variants.{Refused}
+use Rattle.schedule.specs.Schedule.{runOf}
+use Rattle.promise.specs.History.{Call, enter, turn, After, Deal, history}
+
+-- one request at BITONIC[4], whose depth is 3: it enters and takes all its turns
+abbrev pub request : ℕ → ℕ → List Call
+request t v = enter t v ∷ turn t ∷ turn t ∷ turn t ∷ turn t ∷ []
 
 pub record Facts : Type 0 where
   -- 1. BITONIC[4] rows: 0 1 2 3; 0 2 3 1; 0 2 1 3
@@ -18,3 +29,11 @@ pub record Facts : Type 0 where
   pub five : rowOf 8 2 0 ≡ 0 ∷ 4 ∷ 6 ∷ 2 ∷ 3 ∷ 7 ∷ 5 ∷ 1 ∷ []
   -- 6. Depths at 64: 21, 36. At 1: 0, 0
   pub six : (depthOf 64 1 ≡ 21) × (depthOf 64 2 ≡ 36) × (depthOf 1 1 ≡ 0) × (depthOf 1 2 ≡ 0)
+  -- 7. BITONIC[4], one token after another on entry wires 2, 0, 0, 3: they come out on wires 0, 1, 2, 3
+  pub seven : map (λ (e : Deal). e .exit) (history 4 1 (request 0 2 ++ (request 1 0 ++ (request 2 0 ++ request 3 3))) .deals) ≡ 0 ∷ 1 ∷ 2 ∷ 3 ∷ []
+  -- 9. m = 0: every share 0. m = 5, w = 4: shares 2, 1, 1, 1
+  pub nine : ((w i : ℕ) → 0 < w → share 0 i w ≡ 0) × (share 5 0 4 ≡ 2) × (share 5 1 4 ≡ 1) × (share 5 2 4 ≡ 1) × (share 5 3 4 ≡ 1)
+  -- 10. Empty schedule: 14, record 0, offset 0. Three bytes: 11
+  pub ten : ((room : ℕ) → runOf [] room ≡ Refused 14 0 0) × ((a b c room : ℕ) → runOf (a ∷ b ∷ c ∷ []) room ≡ Refused 11 0 0)
+  -- 11. Width 3: 1. Width 128: 1. Wire 4 at width 4: 5
+  pub eleven : (openOf 3 1 .refusal ≡ 1) × (openOf 128 1 .refusal ≡ 1) × (enterOf (openOf 4 1 .run) 0 4 .refusal ≡ 5)
