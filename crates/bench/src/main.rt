@@ -2,6 +2,7 @@
 // 1, 2: enter and all turns of a request at width 64, bitonic or periodic, by value, the record judged at each call; 3: the
 // periodic sheet of width 64; 4: a gap list of 63,000 numbers; 5: writing and reading one record; 6: running a schedule of 65,536
 // bytes. Anything else, and no line at all, does nothing. `bench/peer.c` does the same in plain C.
+ghost use Prim.Native.Nat.{_≤_};
 use board::Turn;
 use records::Read;
 use records::Record;
@@ -10,6 +11,14 @@ use schedule::Outcome;
 
 fn plus(a: u64, b: u64) -> u64 {
     std::num::wrapping_add_u64(a, b)
+}
+
+fn byte(x: u8) -> u64 {
+    x as u64
+}
+
+fn wide(x: u32) -> u64 {
+    x as u64
 }
 
 // ---- 1 and 2
@@ -33,7 +42,8 @@ fn turns(run: Run, token: u16, count: u16) -> Going {
     let mut k = 0u16;
     while k < count {
         let turned = x.turn(token);
-        sum = plus(sum, number_in(turned.answer));
+        let answer = turned.answer;
+        sum = plus(sum, number_in(answer));
         let after = turned.run;
         x = after;
         k += 1;
@@ -50,7 +60,8 @@ fn requests(construction: u16, n: u64) -> u64 {
     while i < n {
         let token = (i % 256) as u16;
         let entered = x.enter(token, (i % 64) as u16);
-        let gone = turns(entered.run, token, count);
+        let inside = entered.run;
+        let gone = turns(inside, token, count);
         sum = plus(sum, gone.sum);
         let after = gone.run;
         x = after;
@@ -68,7 +79,7 @@ fn sheets_filled(n: u64) -> u64 {
     while i < n {
         let done = sheets::sheet(64, 2, &mut out);
         let at = (i % 2304) as usize;
-        sum = plus(sum, plus(done.filled as u64, out[at] as u64));
+        sum = plus(sum, plus(done.filled as u64, byte(out[at])));
         i += 1;
     }
     sum
@@ -93,8 +104,193 @@ fn gaps_listed(n: u64) -> u64 {
     while i < n {
         let done = gaps::gap_list(x, &mut out);
         let at = (i % 60000) as usize;
-        sum = plus(sum, plus(done.filled as u64, out[at] as u64));
+        sum = plus(sum, plus(done.filled as u64, wide(out[at])));
         i += 1;
     }
     sum
+}
+
+// ---- 5
+
+fn fields_of(read: Read) -> u64 {
+    let Read::Got(item, length) = read else {
+        return 0;
+    };
+    let all = length as u64;
+    match item {
+        Record::Open {
+            width: _,
+            construction: _,
+        } => all,
+        Record::Enter { token: _, wire: _ } => all,
+        Record::Turn { token: _ } => all,
+        Record::Close { entered: _ } => all,
+        Record::Number {
+            token,
+            wire,
+            number,
+        } => plus(all, plus(token as u64, plus(wire as u64, number as u64))),
+    }
+}
+
+fn record_again(i: u64, out: &mut [u8]) -> u64 {
+    let item = Record::Number {
+        token: (i % 256) as u16,
+        wire: (i % 64) as u16,
+        number: (i % 1_000_000) as u32,
+    };
+    let written = records::write_record(item, out);
+    plus(written.bytes as u64, fields_of(records::read_record(out)))
+}
+
+fn records_again(n: u64) -> u64 {
+    let mut out = [0u8; 4096];
+    let mut sum = 0u64;
+    let mut i = 0u64;
+    while i < n {
+        sum = plus(sum, record_again(i, &mut out));
+        i += 1;
+    }
+    sum
+}
+
+// ---- 6
+
+// A record at a place, where there is room for it; the place behind it.
+fn put(item: Record, at: usize, out: &mut [u8]) -> usize {
+    if at < out.len() {
+        let written = records::write_record(item, &mut out[at..]);
+        let n = written.bytes;
+        if n <= 12 {
+            return at + n;
+        }
+    }
+    at
+}
+
+// One request with its 22 turns.
+fn put_request(i: u64, from: usize, out: &mut [u8]) -> usize {
+    let token = (i % 256) as u16;
+    let mut at = put(
+        Record::Enter {
+            token,
+            wire: (i % 64) as u16,
+        },
+        from,
+        out,
+    );
+    let mut k = 0u16;
+    while k < 22 {
+        at = put(Record::Turn { token }, at, out);
+        k += 1;
+    }
+    at
+}
+
+// 468 requests, one after another, at BITONIC[64]: 65,536 bytes.
+fn put_schedule(out: &mut [u8]) -> usize {
+    let mut at = put(
+        Record::Open {
+            width: 64,
+            construction: 1,
+        },
+        0,
+        out,
+    );
+    let mut i = 0u64;
+    while i < 468 {
+        at = put_request(i, at, out);
+        i += 1;
+    }
+    put(Record::Close { entered: 468 }, at, out)
+}
+
+fn bytes_in(outcome: Outcome) -> u64 {
+    match outcome {
+        Outcome::Accepted {
+            width: _,
+            construction: _,
+            entries: _,
+            bytes,
+        } => bytes as u64,
+        Outcome::Refused {
+            number: _,
+            record: _,
+            offset: _,
+        } => 0,
+    }
+}
+
+fn schedules_run(n: u64) -> u64 {
+    let mut bytes = [0u8; 65536];
+    let mut out = [0u8; 65536];
+    put_schedule(&mut bytes);
+    let mut sum = 0u64;
+    let mut i = 0u64;
+    while i < n {
+        let outcome = schedule::run(&bytes, &mut out);
+        let at = (i % 5616) as usize;
+        sum = plus(sum, plus(bytes_in(outcome), byte(out[at])));
+        i += 1;
+    }
+    sum
+}
+
+// ---- the line
+
+struct Number {
+    value: u64,
+    at: usize,
+}
+
+// The value of a decimal digit, and 10 for any other byte.
+fn digit(b: u8) -> u64
+    ensures { λ r. ⌜ r ≤ 10 ⌝ }
+{
+    if b < 48 {
+        return 10;
+    }
+    if 57 < b {
+        return 10;
+    }
+    (b - 48) as u64
+}
+
+// The number at a place, of at most twelve digits, and the place behind it and one byte more.
+fn number_at(text: &[u8], from: usize) -> Number {
+    let mut value = 0u64;
+    let mut at = from;
+    while at < text.len() {
+        let d = digit(text[at]);
+        at += 1;
+        if 9 < d {
+            return Number { value, at };
+        }
+        if value < 100_000_000_000 {
+            value = value * 10 + d;
+        }
+    }
+    Number { value, at }
+}
+
+fn work(what: u64, n: u64) -> u64 {
+    match what {
+        1 => requests(1, n),
+        2 => requests(2, n),
+        3 => sheets_filled(n),
+        4 => gaps_listed(n),
+        5 => records_again(n),
+        6 => schedules_run(n),
+        _ => 0,
+    }
+}
+
+fn main() {
+    let mut text = [0u8; 64];
+    let n = io::read_full(0, &mut text);
+    let line = &text[..n];
+    let what = number_at(line, 0);
+    let count = number_at(line, what.at);
+    io::print_decimal(1, work(what.value, count.value));
+    io::write_all(1, b"\n");
 }

@@ -1,11 +1,11 @@
 -- Through a schedule the run stays sound from the open to the close, so that no record has to judge it. Assumes nothing.
-use mathlib.Core.Path.{_≡_, refl}
-use mathlib.Core.Bool.{Bool, true, false, cond}
+use mathlib.Core.Path.{_≡_}
+use mathlib.Core.Bool.{Bool, true, cond}
 use Prim.Native.Nat.{ℕ}
 use native.Mathlib.Omega.{arith}
 use lib.Dec.{eqb}
-use borrow.Author.Tests.{eq-eqb, eqb-true}
-use Rattle.board.specs.Answer.{Values, valuesOf}
+use borrow.Author.Tests.{eqb-true}
+use Rattle.board.specs.Answer.{valuesOf}
 use Rattle.board.proofs.Lists.{cond-case}
 use Rattle.run.specs.declared.Run.{Run}
 use Rattle.run.specs.Run.{fresh, openOf, enterOf, turnOf, sound}
@@ -14,7 +14,7 @@ use Rattle.records.specs.declared.Record.{Record}
 use Rattle.records.specs.declared.Record.the-variants.{Open, Enter, Turn, Close, Number}
 use Rattle.schedule.specs.declared.Course.{Course}
 use Rattle.schedule.specs.declared.Step.{Step}
-use Rattle.schedule.specs.Step.{course, atStart, silent, unless, inPhase, closes, stepOf}
+use Rattle.schedule.specs.Step.{course, atStart, silent, closes, stepOf}
 use Rattle.schedule.specs.Pass.{Underway}
 
 pub record Ready (x : Course) : Type 0 where

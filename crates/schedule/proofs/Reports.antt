@@ -1,6 +1,6 @@
 -- Reports. In order: a report has at most 12 bytes; what noting one comes to, dealt or not, written or not; the output with the
 -- reports done so far, and with one more. Assumes nothing.
-use mathlib.Core.Path.{_≡_, refl, _∙_, ap}
+use mathlib.Core.Path.{_≡_, refl, _∙_}
 use mathlib.Core.Bool.{Bool, true, false, cond}
 use mathlib.Core.List.{List, [], _++_}
 use Prim.Native.Nat.{ℕ, _+_, _≤_}

@@ -1,8 +1,8 @@
 -- What is told of a schedule from a record on. In order: a record that is read and carried out; the definition at each way out of
 -- the loop and at a record passed; the reports only grow. Assumes nothing.
-use mathlib.Core.Path.{_≡_, refl, sym, _∙_, ap}
+use mathlib.Core.Path.{_≡_, sym, _∙_, ap}
 use mathlib.Core.Bool.{Bool, true, false, cond}
-use mathlib.Core.List.{List, [], _++_}
+use mathlib.Core.List.{List, _++_}
 use Prim.Native.Nat.{ℕ, zero, suc, _+_, _-_, _<_, _≤_}
 use native.Mathlib.Omega.{arith}
 use lib.ListN.{length, take, drop, length-append, length-drop}
@@ -13,7 +13,7 @@ use Rattle.records.specs.declared.Record.{Record}
 use Rattle.records.specs.declared.Read.{Read}
 use Rattle.records.specs.declared.Read.the-variants.{Got, Refused as Unread}
 use Rattle.records.specs.Records.{readOf}
-use Rattle.records.proofs.Reading.{ReadLength, read-length}
+use Rattle.records.proofs.Reading.{read-length}
 use Rattle.schedule.specs.declared.Course.{Course}
 use Rattle.schedule.specs.declared.Step.{Step}
 use Rattle.schedule.specs.declared.Outcome.the-variants.{Accepted}

@@ -2,7 +2,7 @@
 use Prim.Native.Nat.{ℕ, zero, suc, _+_}
 use mathlib.Core.Path.{_≡_}
 use mathlib.Core.List.{List, [], _++_}
-use mathlib.Core.Bool.{Bool, false, cond}
+use mathlib.Core.Bool.{false, cond}
 use lib.ListN.{length, drop}
 use lib.Dec.{ltb, leb, eqb}
 use Rattle.records.specs.declared.Record.{Record}
@@ -10,7 +10,6 @@ use Rattle.records.specs.declared.Read.{Read}
 use Rattle.records.specs.declared.Read.the-variants.{Got, Refused as Unread}
 use Rattle.records.specs.Records.{readOf, over}
 use Rattle.schedule.specs.declared.Course.{Course}
-use Rattle.schedule.specs.declared.Step.{Step}
 use Rattle.schedule.specs.declared.Outcome.{Outcome}
 use Rattle.schedule.specs.declared.Outcome.the-variants.{Accepted, Refused}
 use Rattle.schedule.specs.Step.{atStart, stepOf, reportOf}

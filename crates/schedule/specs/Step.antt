@@ -4,13 +4,9 @@ use Prim.Native.Nat.{ℕ}
 use mathlib.Core.List.{List, []}
 use mathlib.Core.Bool.{Bool, false, cond, _&&_}
 use lib.Dec.{eqb}
-use Rattle.board.specs.declared.Board.{Board}
 use Rattle.board.specs.Sound.{insideSum}
-use Rattle.board.specs.Answer.{Values, valuesOf}
+use Rattle.board.specs.Answer.{valuesOf}
 use Rattle.run.specs.declared.Run.{Run}
-use Rattle.run.specs.declared.Opened.{Opened}
-use Rattle.run.specs.declared.Entered.{Entered}
-use Rattle.run.specs.declared.Turned.{Turned}
 use Rattle.run.specs.Run.{fresh, openOf, enterOf, turnOf}
 use Rattle.records.specs.declared.Record.{Record}
 use Rattle.records.specs.declared.Record.the-variants.{Open, Enter, Turn, Close, Number}
