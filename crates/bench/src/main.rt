@@ -140,7 +140,7 @@ fn record_again(i: u64, out: &mut [u8]) -> u64 {
         number: (i % 1_000_000) as u32,
     };
     let written = records::write_record(item, out);
-    plus(written.bytes as u64, fields_of(records::read_record(out)))
+    plus(written.filled as u64, fields_of(records::read_record(out)))
 }
 
 fn records_again(n: u64) -> u64 {
@@ -160,7 +160,7 @@ fn records_again(n: u64) -> u64 {
 fn put(item: Record, at: usize, out: &mut [u8]) -> usize {
     if at < out.len() {
         let written = records::write_record(item, &mut out[at..]);
-        let n = written.bytes;
+        let n = written.filled;
         if n <= 12 {
             return at + n;
         }

@@ -11,7 +11,7 @@ use Rattle.board.specs.Sound.{all, sumOf, fewEntered, placesOk, countsBeyond, t
 use Rattle.board.specs.Answer.{valuesOf}
 use Rattle.board.specs.Steps.{enterNo, entering, enterWith, turnNo, passing, dealing, turnWith}
 use Rattle.run.specs.Run.{fresh, openOf, depthIn, sound, enterOf, feedsOf, turnOf}
-use Rattle.schedule.proofs.Facts.{schedule-facts}
+use Rattle.schedule.proofs.Cases.{empty-schedule, three-bytes}
 use Rattle.promise.specs.History.{callOf, callsOf, history}
 use Rattle.facts.specs.Facts.{Facts}
 
@@ -27,6 +27,6 @@ facts =
       six = (refl, refl, refl, refl);
       seven = refl;
       nine = (λ w i pos. share-zero w pos i, refl, refl, refl, refl);
-      ten = (schedule-facts .empty, schedule-facts .three);
+      ten = (empty-schedule, three-bytes);
       eleven = (refl, refl, refl);
     }

@@ -17,10 +17,11 @@ use Rattle.run.specs.Run.{openOf, sound, enterOf, turnOf}
 use Rattle.gaps.specs.Gaps.{GapsIs}
 use Rattle.records.specs.declared.Record.{Record}
 use Rattle.records.specs.declared.Read.{Read}
-use Rattle.records.specs.declared.Written.{Written}
-use Rattle.records.specs.Records.{readOf, sizeOf, Writes}
+use Rattle.records.specs.Fields.{field}
+use Rattle.records.specs.Reading.{readOf}
+use Rattle.records.specs.Writing.{sizeOf, Writes}
 use Rattle.schedule.specs.declared.Outcome.{Outcome}
-use Rattle.schedule.specs.Schedule.{Ran}
+use Rattle.schedule.specs.Whole.{Ran}
 
 -- a contract on what is answered, and one on what is answered and on lent numbers after it
 abbrev pub One : {A : Type 0} → (A → Type 0) → Type 0
@@ -51,7 +52,9 @@ pub record OneAnswer : Type 0 where
   -- records
   pub read : (s : List ℕ) → One (λ (r : Read). r ≡ readOf true s)
   pub read-in-schedule : (s : List ℕ) → One (λ (r : Read). r ≡ readOf false s)
+  pub field-of-two : (s : List ℕ) (at : ℕ) → One (λ (r : ℕ). r ≡ field 2 s at)
+  pub field-of-four : (s : List ℕ) (at : ℕ) → One (λ (r : ℕ). r ≡ field 4 s at)
   pub size-of : (x : Record) → One (λ (r : ℕ). r ≡ sizeOf x)
-  pub write : (x : Record) (before : List ℕ) → OneWith (λ (r : Written) after. Writes x before r after)
+  pub write : (x : Record) (before : List ℕ) → OneWith (λ (r : Filled) after. Writes x before r after)
   -- schedule
   pub run : (s out : List ℕ) → OneWith (λ (r : Outcome) out′. Ran s out r out′)

@@ -9,7 +9,7 @@ use Rattle.run.specs.declared.Opened.{Opened}
 use Rattle.run.specs.declared.Entered.{Entered}
 use Rattle.run.specs.Run.{openOf, enterOf}
 use Rattle.schedule.specs.declared.Outcome.the-variants.{Refused}
-use Rattle.schedule.specs.Schedule.{runOf}
+use Rattle.schedule.specs.Whole.{runOf}
 use Rattle.promise.specs.History.{Call, enter, turn, After, Deal, history}
 
 -- one request at BITONIC[4], whose depth is 3: it enters and takes all its turns

@@ -13,7 +13,8 @@ use Rattle.order.specs.Order.{firstOf}
 use Rattle.order.proofs.Order.{cleared}
 use Rattle.records.specs.declared.Record.{Record}
 use Rattle.records.specs.declared.Read.the-variants.{Got, Refused}
-use Rattle.records.specs.Records.{lengthOf, known, lengthIn, kindIn, recordIn, readNo, readOf, kindOf, sizeOf}
+use Rattle.records.specs.Reading.{lengthOf, known, lengthIn, kindIn, recordIn, readNo, readOf}
+use Rattle.records.specs.Writing.{kindOf, sizeOf}
 
 -- bytes whose first record is whole
 pub record Whole (reports : Bool) (s : List ℕ) : Type 0 where

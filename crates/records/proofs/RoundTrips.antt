@@ -13,7 +13,9 @@ use Rattle.records.specs.declared.Record.{Record}
 use Rattle.records.specs.declared.Record.the-variants.{Open, Enter, Turn, Close, Number}
 use Rattle.records.specs.declared.Read.the-variants.{Got}
 use Rattle.records.specs.Fields.{spelt, field, bytesIn}
-use Rattle.records.specs.Records.{lengthOf, known, kindIn, recordIn, readOf, kindOf, fieldsOf, sizeOf, bytesOf, fits, RoundTrips}
+use Rattle.records.specs.Reading.{lengthOf, known, kindIn, recordIn, readOf}
+use Rattle.records.specs.Writing.{kindOf, fieldsOf, sizeOf, bytesOf}
+use Rattle.records.specs.RoundTrips.{fits, RoundTrips}
 use Rattle.records.proofs.Fields.{spelt-bytesIn, bytesIn-field}
 use Rattle.records.proofs.Writing.{length-bytesOf}
 use Rattle.records.proofs.Reading.{Whole, whole→read, read→gotten, by-kind, kind-recordIn, read-length}

@@ -9,11 +9,12 @@ use native.Mathlib.Nat.{add-assoc, zero-add}
 use lib.ListN.{length, take, drop, set, length-append}
 use lib.Seq.{sets-eq, length-take-le, take-at, drop-at, drop-drop}
 use borrow.Author.Tests.{lt-ltb, le-ltb}
-use Rattle.order.specs.Order.{firstOf}
 use Rattle.records.specs.declared.Record.{Record}
 use Rattle.records.specs.declared.Record.the-variants.{Open, Enter, Turn, Close, Number}
 use Rattle.records.specs.Fields.{bytesIn, placed}
-use Rattle.records.specs.Records.{lengthOf, fieldsOf, sizeOf, bytesOf, writeNo, writeOf, over, writtenOf, Writes}
+use Rattle.records.specs.Reading.{lengthOf}
+use Rattle.records.specs.Writing.{fieldsOf, sizeOf, bytesOf, writeNo, Writes}
+use Rattle.order.specs.Order.{firstOf, over}
 
 -- ---- placing
 module _ (out : List ℕ) (at : ℕ) (a : List ℕ) (within : at ≤ length out) where
@@ -70,13 +71,13 @@ over-more out done bytes =
     rw (← placed-front out done, ← placed-front out (done ++ bytes), ← placed-placed out 0 done (omega arith) bytes, zero-add (length done))
 
 module _ (r : Record) (out : List ℕ) (size : ℕ) (is-size : size ≡ sizeOf r) where
-  pub writes-none : length out < size → Writes r out (record { refusal = 17; bytes = 0 }) out
-  unfolding writeNo writeOf writtenOf firstOf
+  pub writes-none : length out < size → Writes r out (record { refusal = 17; filled = 0 }) out
+  unfolding writeNo firstOf
   writes-none short = record { answer = rw (← is-size, lt-ltb _ _ short); buffer = rw (← is-size, lt-ltb _ _ short) }
 
   pub writes-all : (after : List ℕ) → size ≤ length out → after ≡ placed out 0 (bytesOf r)
-      → Writes r out (record { refusal = 0; bytes = size }) after
-  unfolding writeNo writeOf writtenOf firstOf
+      → Writes r out (record { refusal = 0; filled = size }) after
+  unfolding writeNo firstOf
   writes-all after fits e =
       record {
         answer = rw (← is-size, le-ltb _ _ fits);

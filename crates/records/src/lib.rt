@@ -5,7 +5,9 @@ ghost use mathlib.Core.List.{_++_};
 ghost use Prim.Native.Nat.{_+_, _≤_};
 ghost use lib.ListN.{length, getD};
 ghost use Rattle.records.specs.Fields.{field, bytesIn, placed};
-ghost use Rattle.records.specs.Records.{lengthOf, recordIn, readNo, readOf, kindOf, fieldsOf, sizeOf, bytesOf, Writes};
+ghost use Rattle.records.specs.Reading.{lengthOf, recordIn, readNo, readOf};
+ghost use Rattle.records.specs.Writing.{kindOf, fieldsOf, sizeOf, bytesOf, Writes};
+use order::Filled;
 
 pub enum Record {
     Open { width: u16, construction: u16 },
@@ -20,12 +22,6 @@ pub enum Read {
     Got(Record, usize),
     // The number of the refusal.
     Refused(u8),
-}
-
-// What a call that fills a lent buffer answers: the refusal number, 0 where it was carried out, and the bytes filled.
-pub struct Written {
-    pub refusal: u8,
-    pub bytes: usize,
 }
 
 // The byte at a place, 0 past the end.
@@ -233,19 +229,19 @@ pub fn put_record(out: &mut [u8], at: usize, item: Record)
 }
 
 // Writes a record in front of out, where there is room; the rest of out stays.
-pub fn write_record(item: Record, out: &mut [u8]) -> Written
+pub fn write_record(item: Record, out: &mut [u8]) -> Filled
     ensures { λ r. ⌜ Writes item (now (out .entry)) r (now (out .exit)) ⌝ }
 {
     let size = size_of(item);
     if out.len() < size {
-        return Written {
+        return Filled {
             refusal: 17,
-            bytes: 0,
+            filled: 0,
         };
     }
     put_record(out, 0, item);
-    Written {
+    Filled {
         refusal: 0,
-        bytes: size,
+        filled: size,
     }
 }

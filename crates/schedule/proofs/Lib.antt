@@ -3,4 +3,4 @@ mod Reports
 mod Told
 mod Loop
 mod Whole
-pub mod Facts
+pub mod Cases

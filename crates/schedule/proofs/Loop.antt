@@ -9,7 +9,8 @@ use native.Mathlib.Omega.{arith}
 use lib.ListN.{length, take, drop, length-append}
 use Rattle.records.specs.declared.Read.{Read}
 use Rattle.records.specs.declared.Read.the-variants.{Refused as Unread}
-use Rattle.records.specs.Records.{readOf, over}
+use Rattle.records.specs.Reading.{readOf}
+use Rattle.order.specs.Order.{over}
 use Rattle.schedule.specs.declared.Course.{Course}
 use Rattle.schedule.specs.declared.Step.{Step}
 use Rattle.schedule.specs.declared.Outcome.the-variants.{Accepted, Refused}

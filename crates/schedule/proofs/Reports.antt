@@ -10,7 +10,9 @@ use lib.ListN.{length, take-append-drop, length-append, length-drop}
 use Rattle.records.specs.declared.Record.{Record}
 use Rattle.records.specs.declared.Record.the-variants.{Open, Enter, Turn, Close, Number}
 use Rattle.records.specs.Fields.{placed}
-use Rattle.records.specs.Records.{lengthOf, sizeOf, bytesOf, over}
+use Rattle.records.specs.Reading.{lengthOf}
+use Rattle.records.specs.Writing.{sizeOf, bytesOf}
+use Rattle.order.specs.Order.{over}
 use Rattle.records.proofs.Writing.{length-bytesOf, over-more}
 use Rattle.schedule.specs.declared.Step.{Step}
 use Rattle.schedule.specs.Step.{reportIf, reportOf}

@@ -12,7 +12,7 @@ use borrow.Author.Tests.{lt-ltb, le-ltb, eq-eqb, ne-eqb}
 use Rattle.records.specs.declared.Record.{Record}
 use Rattle.records.specs.declared.Read.{Read}
 use Rattle.records.specs.declared.Read.the-variants.{Got, Refused as Unread}
-use Rattle.records.specs.Records.{readOf}
+use Rattle.records.specs.Reading.{readOf}
 use Rattle.records.proofs.Reading.{read-length}
 use Rattle.schedule.specs.declared.Course.{Course}
 use Rattle.schedule.specs.declared.Step.{Step}

@@ -7,7 +7,8 @@ use lib.ListN.{length}
 use borrow.Author.Tests.{le-leb, lt-leb, lt-ltb, le-ltb}
 use Rattle.schedule.specs.declared.Outcome.{Outcome}
 use Rattle.schedule.specs.declared.Outcome.the-variants.{Accepted, Refused}
-use Rattle.schedule.specs.Schedule.{tell, settle, runOf, afterRun, outputOf, Ran}
+use Rattle.schedule.specs.Schedule.{tell}
+use Rattle.schedule.specs.Whole.{settle, runOf, afterRun, outputOf, Ran}
 use Rattle.schedule.specs.Pass.{Fits, PassIs}
 
 module _ {s out : List ℕ} where

@@ -1,4 +1,5 @@
 pub mod Step
 pub mod Schedule
+pub mod Whole
 pub mod Pass
-pub mod Facts
+pub mod Case

@@ -9,7 +9,7 @@ use Rattle.run.specs.Run.{sound}
 use Rattle.records.specs.declared.Read.{Read}
 use Rattle.records.specs.declared.Read.the-variants.{Got, Refused as Unread}
 use Rattle.records.specs.Fields.{placed}
-use Rattle.records.specs.Records.{over}
+use Rattle.order.specs.Order.{over}
 use Rattle.schedule.specs.declared.Course.{Course}
 use Rattle.schedule.specs.declared.Outcome.{Outcome}
 use Rattle.schedule.specs.declared.Outcome.the-variants.{Accepted}

@@ -3,7 +3,7 @@ ghost use mathlib.Core.Path.{_≡_};
 ghost use Rattle.records.specs.declared.Record.the-variants.{Open, Enter, Turn as TurnRecord, Close};
 ghost use Rattle.schedule.specs.Step.{atStart, silent, stepOf, reportIf};
 ghost use Rattle.schedule.specs.Pass.{numberOf, Underway, RoomFor, Noted, Passable, PassIs};
-ghost use Rattle.schedule.specs.Schedule.{Ran};
+ghost use Rattle.schedule.specs.Whole.{Ran};
 use board::Turn;
 use records::Read;
 use records::Record;

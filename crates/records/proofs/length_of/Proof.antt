@@ -1,6 +1,6 @@
 -- `records::length_of` meets its contract: each arm knows the kind, the last that it is none of them. Assumes nothing.
 use borrow.Author.Tests.{ne-eqb}
-use Rattle.records.specs.Records.{lengthOf}
+use Rattle.records.specs.Reading.{lengthOf}
 use Rattle.records.proofs.length_of.Statement.{statement}
 use Rattle.records.proofs.length_of.Tie as tie
 

@@ -4,7 +4,7 @@ use native.Mathlib.Omega.{arith}
 use mathlib.Core.Path.{refl, ap}
 use lib.ListN.{length}
 use Rattle.records.specs.declared.Record.{Record}
-use Rattle.records.specs.Records.{fieldsOf}
+use Rattle.records.specs.Writing.{fieldsOf}
 use Rattle.records.specs.Fields.{bytesIn}
 use Rattle.records.proofs.Writing.{placed-then}
 use borrow.Author.Needs.{needs}

@@ -2,7 +2,7 @@
 use native.Mathlib.Omega.{arith}
 use mathlib.Core.Path.{refl}
 use Rattle.records.specs.Fields.{bytesIn}
-use Rattle.records.specs.Records.{sizeOf, bytesOf}
+use Rattle.records.specs.Writing.{sizeOf, bytesOf}
 use Rattle.records.proofs.Writing.{size-fields, placed-then}
 use borrow.Author.Needs.{needs}
 use Rattle.records.proofs.put_record.Statement.{statement}

@@ -1,6 +1,6 @@
 -- `records::read_among` meets its contract: the definition goes by the same refusal number. Assumes nothing.
 use borrow.Author.Tests.{eq-eqb, ne-eqb}
-use Rattle.records.specs.Records.{readOf}
+use Rattle.records.specs.Reading.{readOf}
 use borrow.Author.Needs.{needs}
 use Rattle.records.proofs.read_among.Statement.{statement}
 use Rattle.records.proofs.read_among.Tie as tie

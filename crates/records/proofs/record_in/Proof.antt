@@ -1,6 +1,6 @@
 -- `records::record_in` meets its contract: each arm knows the kind and what the fields read as. Assumes nothing.
 use borrow.Author.Tests.{ne-eqb}
-use Rattle.records.specs.Records.{recordIn}
+use Rattle.records.specs.Reading.{recordIn}
 use borrow.Author.Needs.{needs}
 use Rattle.records.proofs.record_in.Statement.{statement}
 use Rattle.records.proofs.record_in.Tie as tie

@@ -1,7 +1,7 @@
 -- `records::refusal` meets its contract: what was read is put back into the definition, and each way out is the first number
 -- whose condition holds. Assumes nothing.
 use Rattle.order.proofs.Order.{order}
-use Rattle.records.specs.Records.{known, readNo}
+use Rattle.records.specs.Reading.{known, readNo}
 use borrow.Author.Needs.{needs}
 use Rattle.records.proofs.refusal.Statement.{statement}
 use Rattle.records.proofs.refusal.Tie as tie

@@ -1,6 +1,7 @@
 -- `records::size_of` meets its contract: the length is that of the kind. Assumes nothing.
 use mathlib.Core.Path.{ap, _∙_}
-use Rattle.records.specs.Records.{lengthOf, sizeOf}
+use Rattle.records.specs.Reading.{lengthOf}
+use Rattle.records.specs.Writing.{sizeOf}
 use borrow.Author.Needs.{needs}
 use Rattle.records.proofs.size_of.Statement.{statement}
 use Rattle.records.proofs.size_of.Tie as tie
