@@ -14,7 +14,8 @@ use Rattle.board.specs.declared.Board.{Board}
 use Rattle.board.specs.declared.Moved.{Moved}
 use Rattle.board.specs.Board.{freePlace, placeAt, countAt, cellAt, downAt}
 use Rattle.board.specs.Sound.{placeOk, placesOk, countsBeyond, togglesBeyond, itself, dealtSum, insideOne, insideSum, soundBoard}
-use Rattle.board.specs.Steps.{at, enterNo, entering, enterWith, turnNo, passing, dealing, turnWith}
+use Rattle.board.specs.Enter.{at, enterNo, entering, enterWith}
+use Rattle.board.specs.Turn.{turnNo, passing, dealing, turnWith}
 use Rattle.board.proofs.Lists.{cond-case, all-set, sum-set}
 use Rattle.board.proofs.Sound.{Shaped, parts, whole, inside-at}
 use Rattle.board.proofs.Refusals.{CanEnter, can-enter, CanTurn, can-turn}

@@ -1,5 +1,4 @@
 pub mod Lists
-pub mod Numbers
 pub mod Sound
 pub mod Refusals
 pub mod Keeps

@@ -15,7 +15,8 @@ use Rattle.board.specs.declared.Boarded.{Boarded}
 use Rattle.board.specs.declared.Moved.{Moved}
 use Rattle.board.specs.Answer.{valuesOf}
 use Rattle.board.specs.Board.{placeAt}
-use Rattle.board.specs.Steps.{enterNo, entering, enterWith, turnNo, passing, dealing, turnWith}
+use Rattle.board.specs.Enter.{enterNo, entering, enterWith}
+use Rattle.board.specs.Turn.{turnNo, passing, dealing, turnWith}
 use Rattle.board.proofs.Lists.{cond-case}
 
 -- ---- what holds where a call is not refused

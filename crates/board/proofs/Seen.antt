@@ -10,7 +10,8 @@ use native.Mathlib.Omega.{arith}
 use lib.Seq.{getD-set-same, getD-set-other}
 use Rattle.board.specs.declared.Board.{Board}
 use Rattle.board.specs.Board.{freePlace, placeAt, countAt, cellAt, downAt}
-use Rattle.board.specs.Steps.{at, entering, passing, dealing}
+use Rattle.board.specs.Enter.{at, entering}
+use Rattle.board.specs.Turn.{passing, dealing}
 use Rattle.board.proofs.Sound.{Shaped}
 
 -- cells of a network of width w that share a toggle's place are one cell

@@ -1,4 +1,5 @@
 pub mod Board
 pub mod Sound
 pub mod Answer
-pub mod Steps
+pub mod Enter
+pub mod Turn

@@ -1,6 +1,7 @@
 // The moving part of any layered network, by value: toggles, exit counts, token places and entered. Width, depth, the place that
 // a wire feeds and the exit come from the caller; nothing here knows a construction. Who calls has judged the board sound: no
-// call here refuses by 9, and a `requires` asks no more than that the token is one and that sums fit.
+// call here refuses by 9, and a `requires` asks no more than that the token is one, that sums fit, that a place handed in is the
+// token's own, and of a lent array its length, which is not known behind a reference.
 ghost use mathlib.Core.Path.{_≡_};
 ghost use mathlib.Core.Bool.{true, false, not, cond};
 ghost use mathlib.Core.List.{[], _∷_};
@@ -10,7 +11,8 @@ ghost use lib.ListN.{length, drop, getD, set};
 ghost use Rattle.order.specs.Order.{_⟶_, firstOf};
 ghost use Rattle.board.specs.Board.{freePlace, freshBoard, placeAt, countAt, cellAt};
 ghost use Rattle.board.specs.Sound.{all, sumOf, placeOk, isZero, itself, insideOne, soundBoard};
-ghost use Rattle.board.specs.Steps.{enterNo, entering, enterWith, passing, numberAt, dealing};
+ghost use Rattle.board.specs.Enter.{enterNo, entering, enterWith};
+ghost use Rattle.board.specs.Turn.{passing, numberAt, dealing};
 
 // Where a token is; while it is free, level 0 and wire 0.
 pub struct Place {
@@ -268,11 +270,12 @@ fn put_in(mut board: Board, token: u16, wire: u16) -> Board
     ensures { λ r. ⌜ r ≡ entering board token wire ⌝ }
 {
     let at = token as usize;
-    board.places[at] = Place {
+    let there = Place {
         inside: true,
         level: 0,
         wire,
     };
+    board.places[at] = there;
     board.entered = board.entered + 1;
     board
 }
@@ -336,11 +339,12 @@ pub fn pass(mut board: Board, width: u16, token: u16, from: Place, feeds: u8) ->
     let level = from.level + 1;
     put_toggle(&mut board.toggles, cell, !down);
     let at = token as usize;
-    board.places[at] = Place {
+    let there = Place {
         inside: true,
         level,
         wire,
     };
+    board.places[at] = there;
     Moved {
         answer: Turn::Passed { level, wire },
         board,

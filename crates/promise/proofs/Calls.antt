@@ -10,7 +10,8 @@ use Rattle.board.specs.declared.Moved.{Moved}
 use Rattle.board.specs.declared.Turn.the-variants.{Refused}
 use Rattle.board.specs.Board.{placeAt}
 use Rattle.board.specs.Answer.{valuesOf}
-use Rattle.board.specs.Steps.{enterNo, entering, enterWith, turnNo, passing, dealing, turnWith}
+use Rattle.board.specs.Enter.{enterNo, entering, enterWith}
+use Rattle.board.specs.Turn.{turnNo, passing, dealing, turnWith}
 use Rattle.board.proofs.Refusals.{CanEnter, CanTurn, can-enter, can-turn}
 use Rattle.run.specs.declared.Run.{Run}
 use Rattle.run.specs.Run.{sound, depthIn, feedsOf, enterOf, turnOf}

@@ -15,7 +15,8 @@ use Rattle.board.specs.declared.Place.{Place}
 use Rattle.board.specs.declared.Board.{Board}
 use Rattle.board.specs.Board.{freePlace, placeAt}
 use Rattle.board.specs.Sound.{sumOf}
-use Rattle.board.specs.Steps.{at, turnNo}
+use Rattle.board.specs.Enter.{at}
+use Rattle.board.specs.Turn.{turnNo}
 use Rattle.board.proofs.Lists.{read-out}
 use Rattle.board.proofs.Seen.{place-entering, place-entering-other, place-passing, place-passing-other, place-dealing, place-dealing-other}
 use Rattle.run.specs.declared.Run.{Run}

@@ -11,7 +11,8 @@ use Rattle.board.specs.declared.Place.{Place}
 use Rattle.board.specs.declared.Board.{Board}
 use Rattle.board.specs.Board.{freePlace, freshBoard, placeAt, countAt, cellAt, downAt}
 use Rattle.board.specs.Sound.{sumOf, insideOne, insideSum}
-use Rattle.board.specs.Steps.{at, entering, passing, numberAt, dealing}
+use Rattle.board.specs.Enter.{at, entering}
+use Rattle.board.specs.Turn.{passing, numberAt, dealing}
 use Rattle.board.proofs.Lists.{sum-set, sum-replicate}
 use Rattle.board.proofs.Sound.{Shaped}
 use Rattle.board.proofs.Keeps.{cell-below}

@@ -16,7 +16,8 @@ use Rattle.board.specs.declared.Boarded.{Boarded}
 use Rattle.board.specs.declared.Moved.{Moved}
 use Rattle.board.specs.declared.Turn.the-variants.{Refused}
 use Rattle.board.specs.Board.{placeAt, countAt}
-use Rattle.board.specs.Steps.{enterNo, enterWith, turnNo, passing, dealing, turnWith}
+use Rattle.board.specs.Enter.{enterNo, enterWith}
+use Rattle.board.specs.Turn.{turnNo, passing, dealing, turnWith}
 use Rattle.board.proofs.Sound.{inside-at, count-le}
 use Rattle.board.proofs.Sound as board
 use Rattle.board.proofs.Refusals.{can-turn, turnNo-at}

@@ -11,7 +11,8 @@ use Rattle.board.specs.declared.Board.{Board}
 use Rattle.board.specs.Answer.{valuesOf}
 use Rattle.board.specs.Board.{placeAt}
 use Rattle.board.specs.Sound.{soundBoard}
-use Rattle.board.specs.Steps.{enterNo, enterWith, turnNo}
+use Rattle.board.specs.Enter.{enterNo, enterWith}
+use Rattle.board.specs.Turn.{turnNo}
 use Rattle.board.proofs.Lists.{and-left, and-right}
 use Rattle.board.proofs.Sound as board
 use Rattle.board.proofs.Refusals.{CanEnter, CanTurn, turn-number, enterNo-le, turnNo-le}

@@ -10,7 +10,8 @@ use Rattle.board.specs.declared.Boarded.{Boarded}
 use Rattle.board.specs.declared.Moved.{Moved}
 use Rattle.board.specs.Board.{freshBoard, placeAt}
 use Rattle.board.specs.Sound.{soundBoard}
-use Rattle.board.specs.Steps.{enterWith, turnWith}
+use Rattle.board.specs.Enter.{enterWith}
+use Rattle.board.specs.Turn.{turnWith}
 use Rattle.run.specs.declared.Run.{Run}
 use Rattle.run.specs.declared.Opened.{Opened}
 use Rattle.run.specs.declared.Entered.{Entered}

@@ -2,7 +2,7 @@
 use borrow.Author.Needs.{needs}
 use native.Mathlib.Omega.{arith}
 use Prim.Native.Nat.{_/_}
-use Rattle.board.proofs.Numbers.{product-small}
+use native.Mathlib.Nat.{mul-le-mul}
 use Rattle.board.proofs.cells.Statement.{statement}
 use Rattle.board.proofs.cells.Tie as tie
 
@@ -10,7 +10,7 @@ cast-result : tie.Need-cast-result
 cast-result c = search needs
 
 mul-result : tie.Need-mul-result
-mul-result c = omega (arith, product-small (c .args .depth) (c .args .width / 2) (omega arith) (omega arith))
+mul-result c = omega (arith, mul-le-mul {n₁ = c .args .depth} {m₁ = c .args .width / 2} {n₂ = 65536} {m₂ = 32768} (omega arith) (omega arith))
 
 returns : tie.Need-returns
 returns c = search needs

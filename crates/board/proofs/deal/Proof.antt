@@ -2,7 +2,7 @@
 use borrow.Author.Needs.{needs}
 use native.Mathlib.Omega.{arith}
 use Rattle.board.specs.Board.{countAt}
-use Rattle.board.specs.Steps.{dealing}
+use Rattle.board.specs.Turn.{dealing}
 use Rattle.board.proofs.deal.Statement.{statement}
 use Rattle.board.proofs.deal.Tie as tie
 

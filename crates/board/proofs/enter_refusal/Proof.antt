@@ -1,7 +1,7 @@
 -- `board::enter_refusal` meets its contract: each return is the first number whose condition holds. Assumes nothing.
 use borrow.Author.Needs.{needs}
 use Rattle.order.proofs.Order.{order}
-use Rattle.board.specs.Steps.{enterNo}
+use Rattle.board.specs.Enter.{enterNo}
 use Rattle.board.proofs.enter_refusal.Statement.{statement}
 use Rattle.board.proofs.enter_refusal.Tie as tie
 

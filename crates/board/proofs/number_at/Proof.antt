@@ -1,15 +1,15 @@
 -- `board::number_at` meets its contract: at most 64 · 1,000,000 and the exit. Assumes nothing.
 use borrow.Author.Needs.{needs}
 use native.Mathlib.Omega.{arith}
-use Rattle.board.proofs.Numbers.{product-le}
+use native.Mathlib.Nat.{mul-le-mul}
 use Rattle.board.proofs.number_at.Statement.{statement}
 use Rattle.board.proofs.number_at.Tie as tie
 
 mul-result : tie.Need-mul-result
-mul-result c = omega (arith, product-le (c .args .width) (c .args .count) (c .pre .0) (c .pre .1))
+mul-result c = omega (arith, mul-le-mul (c .pre .0) (c .pre .1))
 
 add-result : tie.Need-add-result
-add-result c = omega (arith, product-le (c .args .width) (c .args .count) (c .pre .0) (c .pre .1))
+add-result c = omega (arith, mul-le-mul (c .pre .0) (c .pre .1))
 
 returns : tie.Need-returns
 returns c = search needs

@@ -1,7 +1,7 @@
 -- `board::pass` meets its contract. Assumes nothing.
 use borrow.Author.Needs.{needs}
 use Rattle.board.specs.Board.{downAt}
-use Rattle.board.specs.Steps.{passing}
+use Rattle.board.specs.Turn.{passing}
 use Rattle.board.proofs.pass.Statement.{statement}
 use Rattle.board.proofs.pass.Tie as tie
 
@@ -20,11 +20,11 @@ add-level c = search needs
 put-toggle-requires : tie.Need-put-toggle-requires
 put-toggle-requires c κs = search needs
 
-mul-t18 : tie.Need-mul-t18
-mul-t18 c = search needs
+mul-there : tie.Need-mul-there
+mul-there c = search needs
 
-element-set-from-board : tie.Need-element-set-from-board
-element-set-from-board c = search needs
+element-set-from-there : tie.Need-element-set-from-there
+element-set-from-there c = search needs
 
 returns : tie.Need-returns
 unfolding passing downAt
@@ -39,6 +39,6 @@ pass-spec =
     outlet-requires
     add-level
     put-toggle-requires
-    mul-t18
-    element-set-from-board
+    mul-there
+    element-set-from-there
     returns)

@@ -1,15 +1,15 @@
 -- `board::put_in` meets its contract. Assumes nothing.
 use borrow.Author.Needs.{needs}
 use mathlib.Core.Path.{refl}
-use Rattle.board.specs.Steps.{entering}
+use Rattle.board.specs.Enter.{entering}
 use Rattle.board.proofs.put_in.Statement.{statement}
 use Rattle.board.proofs.put_in.Tie as tie
 
-mul-t7 : tie.Need-mul-t7
-mul-t7 c = search needs
+mul-there : tie.Need-mul-there
+mul-there c = search needs
 
-element-set-from-board : tie.Need-element-set-from-board
-element-set-from-board c = search needs
+element-set-from-there : tie.Need-element-set-from-there
+element-set-from-there c = search needs
 
 add-board : tie.Need-add-board
 add-board c = search needs
@@ -19,4 +19,4 @@ unfolding entering
 returns c = refl
 
 pub put-in-spec : {M : Type 1} → statement M
-put-in-spec = tie.close (tie.spec mul-t7 element-set-from-board add-board returns)
+put-in-spec = tie.close (tie.spec mul-there element-set-from-there add-board returns)

@@ -9,7 +9,7 @@ use Rattle.board.specs.declared.Board.{Board}
 use Rattle.board.specs.declared.Turn.the-variants.{Passed, Dealt, Refused}
 use Rattle.board.specs.declared.Moved.{Moved}
 use Rattle.board.specs.Board.{placeAt}
-use Rattle.board.specs.Steps.{turnNo, passing, dealing, turnWith}
+use Rattle.board.specs.Turn.{turnNo, passing, dealing, turnWith}
 use Rattle.run.specs.declared.Run.{Run}
 use Rattle.run.specs.declared.Turned.{Turned}
 use Rattle.run.specs.Run.{sound, depthIn, turnOf}

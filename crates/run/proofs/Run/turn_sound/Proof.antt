@@ -16,9 +16,7 @@ turn-refusal-requires c κs = search needs
 
 returns : tie.Need-returns
 returns c =
-    let tested = c in
-    let start = tested .before .before .before .before in
-    turns-not _ _ (start .pre) _ (tested .before .before .place-at .ensures) _ (tested .before .turn-refusal .ensures) (c .if1 .taken)
+    turns-not _ _ (c .before .before .before .before .pre) _ (c .before .before .place-at .ensures) _ (c .before .turn-refusal .ensures) (c .if1 .taken)
 
 depth-of-requires : tie.Need-depth-of-requires
 depth-of-requires c κs = search needs
