@@ -1,5 +1,5 @@
 -- The numbers dealt, by the exits' counts: of an exit i with count c they are i, i + w, .. i + w · (c - 1), once each. So v is dealt
--- where exit v mod w has a count above v div w, and the numbers missing below n are what the exits are short of their shares of n.
+-- where exit v mod w has a count above v div w, and the numbers undealt below n are what the exits are short of their shares of n.
 -- In order: lists of deals; the rule and how it is kept; what is missing. Assumes nothing.
 use Prim.Native.Nat.{ℕ, zero, suc, _+_, _-_, _*_, _/_, _%_, _≤_, _<_}
 use mathlib.Core.Path.{_≡_, ap, sym, _∙_}
@@ -17,7 +17,7 @@ use Rattle.rest.proofs.Sum.{only-same, only-other, sum-change, sum-zero}
 use Rattle.rest.proofs.Share.{share-zero, share-other, share-own, below-share, share-below}
 use Rattle.board.specs.Sound.{sumOf}
 use Rattle.promise.specs.History.{Deal, times, dealtTo, dealtAt}
-use Rattle.promise.specs.Further.{missing}
+use Rattle.promise.specs.Further.{undealt}
 
 -- ---- lists of deals
 sumOf-append : {A : Type 0} (f : A → ℕ) (l m : List A) → sumOf f (l ++ m) ≡ sumOf f l + sumOf f m
@@ -107,7 +107,7 @@ module _ (w : ℕ) (pos : 0 < w) where
       rw (times-append v deals (e ∷ []), times-one v e, n)
       (omega (arith, k v, raised a b (e .exit) l up h v))
 
-  -- ---- what is missing below n
+  -- ---- what is undealt below n
   module _ (count : ℕ → ℕ) (deals : List Deal) (k : Book w count deals) where
     -- the next number is dealt where its exit is not short of it
     next-short : (n : ℕ) → share (suc n) (n % w) w - count (n % w) ≡ share n (n % w) w - count (n % w) + (1 - times n deals)
@@ -121,13 +121,13 @@ module _ (w : ℕ) (pos : 0 < w) where
           ]
     ]
 
-    pub missing-short : (n : ℕ) → missing n deals ≡ sum w (λ i. share n i w - count i)
-    unfolding missing sum
-    missing-short zero = sym (sum-zero w (λ i. share 0 i w - count i) (λ i l. omega (arith, share-zero w pos i)))
-    missing-short (suc n) =
+    pub undealt-short : (n : ℕ) → undealt n deals ≡ sum w (λ i. share n i w - count i)
+    unfolding undealt sum
+    undealt-short zero = sym (sum-zero w (λ i. share 0 i w - count i) (λ i l. omega (arith, share-zero w pos i)))
+    undealt-short (suc n) =
         omega (
           arith,
-          missing-short n,
+          undealt-short n,
           next-short n,
           sum-change w (λ i. share n i w - count i) (λ i. share (suc n) i w - count i) (n % w) (mod-lt n pos)
               (λ i l d. ap (λ z. z - count i) (share-other w pos n i l d)),

@@ -19,8 +19,8 @@ use Rattle.run.specs.declared.Run.{Run}
 use Rattle.run.specs.Run.{enterOf}
 use Rattle.promise.specs.History.{Call, enter, Deal, After, callOf, callsOf, history, times, dealtTo, dealtAt}
 use Rattle.promise.specs.Promise.{Promise}
-use Rattle.promise.specs.Further.{TrueCounts, NextNumber, OneByOne, missing, Gaps, FewGaps, Nonblocking}
-use Rattle.promise.proofs.Book.{Book, below-yes, times-append, times-one, dealtTo-one, dealtAt-append, dealtAt-one, missing-short}
+use Rattle.promise.specs.Further.{TrueCounts, NextNumber, OneByOne, undealt, Gaps, FewGaps, Nonblocking}
+use Rattle.promise.proofs.Book.{Book, below-yes, times-append, times-one, dealtTo-one, dealtAt-append, dealtAt-one, undealt-short}
 use Rattle.promise.proofs.Record.{none-inside}
 use Rattle.promise.proofs.Builds.{builds-fit}
 use Rattle.promise.proofs.Reached.{Reached, history-reached, reached-call, reached-calls, width-calls, history-width, history-depth}
@@ -139,27 +139,27 @@ sum-le m n f l =
     rw e (omega (arith, sum-append m (n - m) f))
 
 module _ (w : ℕ) (pos : 0 < w) (x : Board) (dealt : List Deal) (book : Book w (countAt x) dealt) (p : Promise w x dealt) where
-  few : (h : ℕ) → 0 < times h dealt → missing h dealt ≤ insideSum x
-  unfolding missing
+  few : (h : ℕ) → 0 < times h dealt → undealt h dealt ≤ insideSum x
+  unfolding undealt
   few h l =
       omega (
         arith,
         sum-le h (x .entered) (λ v. 1 - times v dealt) (omega (arith, p .below h l)),
-        missing-short w pos (countAt x) dealt book (x .entered),
+        undealt-short w pos (countAt x) dealt book (x .entered),
         p .shortfalls,
       )
 
-  -- a missing number's exit is short of all its numbers from there to h
-  nearer : (h v : ℕ) → times v dealt ≡ 0 → h ≤ v + w * missing h dealt
-  nearer h v z = elim (decLe h (v + w * missing h dealt)) [
+  -- an undealt number's exit is short of all its numbers from there to h
+  nearer : (h v : ℕ) → times v dealt ≡ 0 → h ≤ v + w * undealt h dealt
+  nearer h v z = elim (decLe h (v + w * undealt h dealt)) [
     | yes l ↦ l
     | no far ↦
         let i = v % w in
         let q = v / w in
-        let n = missing h dealt in
+        let n = undealt h dealt in
         let past : q + n < share h i w = lt-share w pos h i (q + n) (omega (arith, div-add-mod' v w)) in
         let short : share h i w - countAt x i ≤ n
-        = rw (missing-short w pos (countAt x) dealt book h) (term-le-sum w (λ j. share h j w - countAt x j) i (mod-lt v pos)) in
+        = rw (undealt-short w pos (countAt x) dealt book h) (term-le-sum w (λ j. share h j w - countAt x j) i (mod-lt v pos)) in
         elim (decLt q (countAt x i)) [
           | yes l ↦ absurd (omega (arith, book v, below-yes q (countAt x i) l))
           | no l ↦ absurd (omega arith)
@@ -169,7 +169,7 @@ module _ (w : ℕ) (pos : 0 < w) (x : Board) (dealt : List Deal) (book : Book w 
   book-gaps : (h : ℕ) → 0 < times h dealt → Gaps w h x dealt
   book-gaps h l = record {
     few = few h l;
-    near = λ v k z. omega (arith, nearer h v z, mul-le-mul-left {m = missing h dealt} {n = insideSum x} w (few h l));
+    near = λ v k z. omega (arith, nearer h v z, mul-le-mul-left {m = undealt h dealt} {n = insideSum x} w (few h l));
     nearer = λ v k z. omega (arith, nearer h v z);
   }
 

@@ -34,15 +34,15 @@ pub record OneByOne : Type 0 where
 
 -- ---- the gaps (000, Lemma 5.1)
 -- how many numbers below n were not dealt
-unfoldable pub missing : ℕ → List Deal → ℕ
-missing n deals = sum n (λ v. 1 - times v deals)
+unfoldable pub undealt : ℕ → List Deal → ℕ
+undealt n deals = sum n (λ v. 1 - times v deals)
 
 -- Below a number h that was dealt, the highest or any other: at most as many are missing as requests are inside, and each that is
 -- missing is at least h - w · inside. Nearer, as 000 has it: at least h - w for each that is missing.
 pub record Gaps (w h : ℕ) (x : Board) (deals : List Deal) : Type 0 where
-  pub few : missing h deals ≤ insideSum x
+  pub few : undealt h deals ≤ insideSum x
   pub near : (v : ℕ) → v < h → times v deals ≡ 0 → h - w * insideSum x ≤ v
-  pub nearer : (v : ℕ) → v < h → times v deals ≡ 0 → h - w * missing h deals ≤ v
+  pub nearer : (v : ℕ) → v < h → times v deals ≡ 0 → h - w * undealt h deals ≤ v
 
 pub record FewGaps : Type 0 where
   pub holds : (w c : ℕ) (calls : List Call) (h : ℕ) → openNo w c ≡ 0 → 0 < times h (history w c calls .deals)
