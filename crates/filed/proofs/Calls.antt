@@ -1,0 +1,42 @@
+-- Calls. In order: a history with one more; those of a schedule from a record on. Assumes nothing.
+use Prim.Native.Nat.{ℕ, suc, _+_, _≤_}
+use mathlib.Core.Path.{_≡_, ap}
+use mathlib.Core.Bool.{false}
+use mathlib.Core.List.{List, [], _∷_, _++_, append-assoc, append-nil}
+use lib.ListN.{length, drop, drop-of-length-le}
+use Rattle.order.specs.Order.{firstOf}
+use Rattle.run.specs.declared.Run.{Run}
+use Rattle.run.specs.Run.{openOf}
+use Rattle.records.specs.declared.Record.{Record}
+use Rattle.records.specs.declared.Read.the-variants.{Got}
+use Rattle.records.specs.Reading.{readNo, readOf}
+use Rattle.promise.specs.History.{Call, Deal, After, callOf, callsOf, history}
+use Rattle.filed.specs.Filed.{callIn, callsRead, callsFrom}
+
+-- what comes of a call made after others
+abbrev then : After → Call → After
+then y call = record { run = callOf (y .run) call .run; deals = y .deals ++ callOf (y .run) call .deals }
+
+-- numbers dealt before
+abbrev before : List Deal → After → After
+before l y = record { run = y .run; deals = l ++ y .deals }
+
+calls-more : (calls : List Call) (call : Call) (x : Run) → callsOf x (calls ++ (call ∷ [])) ≡ then (callsOf x calls) call
+unfolding callsOf
+calls-more [] call x = rw append-nil
+calls-more (first ∷ rest) call x = rw append-assoc (ap (before (callOf x first .deals)) (calls-more rest call (callOf x first .run)))
+
+pub history-more : (w c : ℕ) (calls : List Call) (call : Call) → history w c (calls ++ (call ∷ [])) ≡ then (history w c calls) call
+unfolding history
+history-more w c calls call = calls-more calls call (openOf w c .run)
+
+-- ---- the calls of a schedule
+module _ (more : ℕ) (s : List ℕ) (at : ℕ) where
+  pub calls-got : (r : Record) (len : ℕ) → readOf false (drop at s) ≡ Got r len
+      → callsFrom (suc more) s at ≡ callIn r ++ callsFrom more s (at + len)
+  unfolding callsFrom callsRead
+  calls-got r len e = rw e
+
+  pub calls-none : length s ≤ at → callsFrom (suc more) s at ≡ []
+  unfolding callsFrom callsRead readOf readNo firstOf
+  calls-none l = rw (drop-of-length-le s l)

@@ -1,0 +1,4 @@
+mod Calls
+mod Reports
+mod Course
+pub mod Filed

@@ -1,0 +1,1 @@
+// What an accepted schedule has dealt: definitions, statements and proofs, no code.
