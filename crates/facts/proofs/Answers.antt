@@ -31,4 +31,5 @@ one-answer =
       size-of = λ x r s. same;
       write = λ x before r s l m e f. (same (e .answer) (f .answer), same (e .buffer) (f .buffer));
       run = λ s₀ out r s l m e f. (same (e .outcome) (f .outcome), same (e .output) (f .output));
+      listing = λ s₀ out r s l m e f. (same (e .answer) (f .answer), same (e .buffer) (f .buffer));
     }

@@ -13,6 +13,7 @@ use Rattle.board.specs.Enter.{enterNo, entering, enterWith}
 use Rattle.board.specs.Turn.{turnNo, passing, dealing, turnWith}
 use Rattle.run.specs.Run.{fresh, openOf, depthIn, sound, enterOf, feedsOf, turnOf}
 use Rattle.schedule.proofs.Cases.{empty-schedule, three-bytes}
+use Rattle.listing_text.proofs.Cases.{case-listing}
 use Rattle.promise.specs.History.{callOf, callsOf, history}
 use Rattle.facts.specs.Facts.{Facts}
 
@@ -27,6 +28,7 @@ facts =
       five = refl;
       six = (refl, refl, refl, refl);
       seven = refl;
+      eight = case-listing;
       nine = (λ w i pos. share-zero w pos i, refl, refl, refl, refl);
       ten = (empty-schedule, three-bytes);
       eleven = (refl, refl, refl);

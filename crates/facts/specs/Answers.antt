@@ -22,6 +22,8 @@ use Rattle.records.specs.Reading.{readOf}
 use Rattle.records.specs.Writing.{sizeOf, Writes}
 use Rattle.schedule.specs.declared.Outcome.{Outcome}
 use Rattle.schedule.specs.Whole.{Ran}
+use Rattle.listing_text.specs.declared.Listed.{Listed}
+use Rattle.listing_text.specs.Listing.{Lists}
 
 -- a contract on what is answered, and one on what is answered and on lent numbers after it
 abbrev pub One : {A : Type 0} → (A → Type 0) → Type 0
@@ -58,3 +60,5 @@ pub record OneAnswer : Type 0 where
   pub write : (x : Record) (before : List ℕ) → OneWith (λ (r : Filled) after. Writes x before r after)
   -- schedule
   pub run : (s out : List ℕ) → OneWith (λ (r : Outcome) out′. Ran s out r out′)
+  -- listing_text
+  pub listing : (s out : List ℕ) → OneWith (λ (r : Listed) out′. Lists s out r out′)

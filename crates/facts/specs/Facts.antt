@@ -10,6 +10,9 @@ use Rattle.run.specs.declared.Entered.{Entered}
 use Rattle.run.specs.Run.{openOf, enterOf}
 use Rattle.schedule.specs.declared.Outcome.the-variants.{Refused}
 use Rattle.schedule.specs.Whole.{runOf}
+use Rattle.schedule.specs.Case.{caseBytes}
+use Rattle.listing_text.specs.Text.{letters}
+use Rattle.listing_text.specs.Listing.{listingOf}
 use Rattle.promise.specs.History.{Call, enter, turn, After, Deal, history}
 
 -- one request at BITONIC[4], whose depth is 3: it enters and takes all its turns
@@ -31,6 +34,8 @@ pub record Facts : Type 0 where
   pub six : (depthOf 64 1 ≡ 21) × (depthOf 64 2 ≡ 36) × (depthOf 1 1 ≡ 0) × (depthOf 1 2 ≡ 0)
   -- 7. BITONIC[4], one token after another on entry wires 2, 0, 0, 3: they come out on wires 0, 1, 2, 3
   pub seven : map (λ (e : Deal). e .exit) (history 4 1 (request 0 2 ++ (request 1 0 ++ (request 2 0 ++ request 3 3))) .deals) ≡ 0 ∷ 1 ∷ 2 ∷ 3 ∷ []
+  -- 8. The listing case
+  pub eight : listingOf caseBytes ≡ letters "network 2 bitonic\n5 1 1\n9 0 0\nrest 2\n"
   -- 9. m = 0: every share 0. m = 5, w = 4: shares 2, 1, 1, 1
   pub nine : ((w i : ℕ) → 0 < w → share 0 i w ≡ 0) × (share 5 0 4 ≡ 2) × (share 5 1 4 ≡ 1) × (share 5 2 4 ≡ 1) × (share 5 3 4 ≡ 1)
   -- 10. Empty schedule: 14, record 0, offset 0. Three bytes: 11

@@ -23,12 +23,12 @@ use Rattle.schedule.specs.Whole.{settle, runOf}
 use Rattle.schedule.specs.Case.{caseBytes}
 
 -- the document's case is accepted: BITONIC[2], two entries, 24 bytes of reports
-case-outcome : runOf caseBytes 24 ≡ Accepted 2 1 2 24
+pub case-outcome : runOf caseBytes 24 ≡ Accepted 2 1 2 24
 unfolding firstOf widthOk constructionOk openNo levels depthOf part bitonic place placeOf freshBoard placeAt countAt downAt all sumOf fewEntered placesOk countsBeyond togglesBeyond dealtSum insideSum addsUp soundBoard valuesOf enterNo entering enterWith turnNo passing dealing turnWith fresh openOf depthIn sound enterOf feedsOf turnOf spelt bytesIn lengthOf known recordIn readNo readOf sizeOf bytesOf atStart stepOf reportIf reportOf onRead tellFrom tell settle runOf caseBytes
 case-outcome = refl
 
 -- it deals 1 to token 5 at exit 1, then 0 to token 9 at exit 0
-case-reports : tell caseBytes .reports ≡ bytesOf (Number 5 1 1) ++ bytesOf (Number 9 0 0)
+pub case-reports : tell caseBytes .reports ≡ bytesOf (Number 5 1 1) ++ bytesOf (Number 9 0 0)
 unfolding firstOf widthOk constructionOk openNo levels depthOf part bitonic place placeOf freshBoard placeAt countAt downAt all sumOf fewEntered placesOk countsBeyond togglesBeyond dealtSum insideSum addsUp soundBoard valuesOf enterNo entering enterWith turnNo passing dealing turnWith fresh openOf depthIn sound enterOf feedsOf turnOf spelt bytesIn lengthOf known recordIn readNo readOf sizeOf bytesOf atStart stepOf reportIf reportOf onRead tellFrom tell settle runOf caseBytes
 case-reports = refl
 

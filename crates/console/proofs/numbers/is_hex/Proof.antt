@@ -1,0 +1,62 @@
+use lib.ListN.{length}
+use Prim.Native.Nat.{_-_, _≤_}
+use borrow.Author.Needs.{needs}
+use Rattle.console.proofs.numbers.is_hex.Statement.{statement}
+use Rattle.console.proofs.numbers.is_hex.Tie as tie
+
+abbrev Inv-loop : tie.InvT-loop
+Inv-loop text i₀ i = (i ≤ length text)
+
+abbrev μ-loop : tie.MeasureT-loop
+μ-loop text i₀ i = length text - i
+
+slice-aggregate-is : tie.Need-slice-aggregate-is Inv-loop μ-loop
+slice-aggregate-is c = search needs
+
+is-requires : tie.Need-is-requires Inv-loop μ-loop
+is-requires c κs = search needs
+
+returns : tie.Need-returns Inv-loop μ-loop
+returns c = search needs
+
+loop-holds : tie.Need-loop-holds Inv-loop μ-loop
+loop-holds c = search needs
+
+shared-slice-read-digit : tie.Need-shared-slice-read-digit Inv-loop μ-loop
+shared-slice-read-digit c = search needs
+
+digit-requires : tie.Need-digit-requires Inv-loop μ-loop
+digit-requires c κs = search needs
+
+returns-2 : tie.Need-returns-2 Inv-loop μ-loop
+returns-2 c = search needs
+
+add-i : tie.Need-add-i Inv-loop μ-loop
+add-i c = search needs
+
+loop-less : tie.Need-loop-less Inv-loop μ-loop
+loop-less c = search needs
+
+loop-again : tie.Need-loop-again Inv-loop μ-loop
+loop-again c = search needs
+
+returns-3 : tie.Need-returns-3 Inv-loop μ-loop
+returns-3 c = search needs
+
+pub is-hex-spec : {M : Type 1} → statement M
+is-hex-spec =
+    tie.close
+    (tie.spec
+    Inv-loop
+    μ-loop
+    slice-aggregate-is
+    is-requires
+    returns
+    loop-holds
+    shared-slice-read-digit
+    digit-requires
+    returns-2
+    add-i
+    loop-less
+    loop-again
+    returns-3)

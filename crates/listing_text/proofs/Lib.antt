@@ -1,0 +1,5 @@
+mod Text
+mod Lines
+mod Told
+pub mod Whole
+pub mod Cases

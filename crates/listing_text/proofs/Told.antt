@@ -1,0 +1,106 @@
+-- However a schedule ends: it is stopped or accepted, and where it is accepted the outcome's bytes are those of its reports.
+-- Assumes nothing.
+use Prim.Native.Nat.{ℕ, zero, suc, _+_, _≤_}
+use mathlib.Core.Path.{_≡_, refl, sym}
+use mathlib.Core.Bool.{Bool, true, false, cond}
+use mathlib.Core.List.{List, [], _++_}
+use native.Mathlib.Omega.{arith}
+use lib.ListN.{length, drop}
+use lib.Dec.{ltb, leb, eqb}
+use borrow.Author.Tests.{leb-true, le-leb}
+use Rattle.records.specs.declared.Record.{Record}
+use Rattle.records.specs.declared.Read.{Read}
+use Rattle.records.specs.declared.Read.the-variants.{Got, Refused as Unread}
+use Rattle.records.specs.Reading.{readOf}
+use Rattle.schedule.specs.declared.Course.{Course}
+use Rattle.schedule.specs.declared.Outcome.{Outcome}
+use Rattle.schedule.specs.declared.Outcome.the-variants.{Accepted, Refused}
+use Rattle.schedule.specs.Step.{atStart, stepOf, reportOf}
+use Rattle.schedule.specs.Schedule.{Told, stopped, accepted, onRead, tellFrom, tell}
+use Rattle.schedule.specs.Whole.{settle, runOf}
+
+-- ---- a schedule is stopped or accepted
+module _ (P : Told → Type 0) (is-stopped : (k n at : ℕ) → P (stopped k n at)) (is-accepted : (x : Course) (done : List ℕ) → P (accepted x done)) where
+  by-test : (b : Bool) (t u : Told) → P t → P u → P (cond b t u)
+  by-test true t u p q = p
+  by-test false t u p q = q
+
+  by-read : (r : Read) (f : Record → ℕ → Told) (g : ℕ → Told) → ((i : Record) (len : ℕ) → P (f i len)) → ((k : ℕ) → P (g k)) → P (onRead r f g)
+  unfolding onRead
+  by-read (Got i len) f g p q = p i len
+  by-read (Unread k) f g p q = q k
+
+  told-from : (more : ℕ) (s : List ℕ) (x : Course) (at n : ℕ) (done : List ℕ) → P (tellFrom more s x at n done)
+  unfolding tellFrom
+  told-from zero s x at n done = is-stopped 14 n at
+  told-from (suc more) s x at n done =
+      by-test (eqb (x .phase) 2) _ _
+      (by-test (ltb at (length s)) _ _ (is-stopped 14 n at) (is-accepted x done))
+      (by-test (ltb at (length s)) _ _
+      (by-read (readOf false (drop at s)) _ _
+      (λ r len.
+      let y = stepOf x r in
+      by-test (eqb (y .refusal) 0) _ _
+      (told-from more s (y .course) (at + len) (n + 1) (done ++ reportOf y))
+      (is-stopped (y .refusal) n at))
+      (λ k. is-stopped k n at))
+      (is-stopped 14 n at))
+
+-- ---- the bytes that an outcome tells
+pub record Bytes (t : Told) (room b : ℕ) : Type 0 where
+  pub all : b ≡ length (t .reports)
+  pub within : b ≤ room
+
+AllTold : Told → Type 0
+AllTold t = (w c e b : ℕ) → t .outcome ≡ Accepted w c e b → b ≡ length (t .reports)
+
+all-stopped : (k n at : ℕ) → AllTold (stopped k n at)
+unfolding AllTold
+all-stopped k n at w c e b h = let never : _≡_ {A = ℕ} 0 1 = cc in absurd (omega arith)
+
+all-accepted : (x : Course) (done : List ℕ) → AllTold (accepted x done)
+unfolding AllTold
+all-accepted x done w c e b h = let all-of-them : length done ≡ b = cc in sym all-of-them
+
+all-told : (s : List ℕ) → AllTold (tell s)
+unfolding tell
+all-told s = told-from AllTold all-stopped all-accepted (suc (length s)) s atStart 0 0 []
+
+-- what is accepted behind a test that may refuse
+passed : (x : Bool) (o : Outcome) (k w c e b : ℕ) → cond x o (Refused k 0 0) ≡ Accepted w c e b → (x ≡ true) × (o ≡ Accepted w c e b)
+passed true o k w c e b h = (refl, h)
+passed false o k w c e b h = let never : _≡_ {A = ℕ} 0 1 = cc in absurd (omega arith)
+
+abbrev told : Outcome → List ℕ → Told
+told o reports = record { outcome = o; reports = reports }
+
+settled-bytes : (o : Outcome) (reports : List ℕ) (room w c e b : ℕ) → AllTold (told o reports) → settle (told o reports) room ≡ Accepted w c e b → Bytes (told o reports) room b
+unfolding settle AllTold
+settled-bytes (Accepted w′ c′ e′ b′) reports room w c e b all h =
+    let p = passed (leb b′ room) _ 17 w c e b h in
+    let same : b ≡ b′ = let q = p .1 in cc in
+    record { all = all w c e b (p .1); within = rw same (leb-true b′ room (p .0)) }
+settled-bytes (Refused k n at) reports room w c e b all h = let never : _≡_ {A = ℕ} 0 1 = cc in absurd (omega arith)
+
+short : (x : Bool) (o : Outcome) (w c e b : ℕ) → cond x (Refused 16 0 0) o ≡ Accepted w c e b → (x ≡ false) × (o ≡ Accepted w c e b)
+short true o w c e b h = let never : _≡_ {A = ℕ} 0 1 = cc in absurd (omega arith)
+short false o w c e b h = (refl, h)
+
+pub run-bytes : (s : List ℕ) (room w c e b : ℕ) → runOf s room ≡ Accepted w c e b → Bytes (tell s) room b
+unfolding runOf
+run-bytes s room w c e b h =
+    settled-bytes (tell s .outcome) (tell s .reports) room w c e b (all-told s) (short (ltb 65536 (length s)) _ w c e b h .1)
+
+-- ---- more room gives the same
+settled-more : (o : Outcome) (reports : List ℕ) (room more w c e b : ℕ) → room ≤ more → settle (told o reports) room ≡ Accepted w c e b → settle (told o reports) more ≡ Accepted w c e b
+unfolding settle
+settled-more (Accepted w′ c′ e′ b′) reports room more w c e b wider h =
+    let p = passed (leb b′ room) _ 17 w c e b h in
+    rw (le-leb b′ more (omega (arith, leb-true b′ room (p .0)))) (p .1)
+settled-more (Refused k n at) reports room more w c e b wider h = h
+
+pub run-more : (s : List ℕ) (room more w c e b : ℕ) → room ≤ more → runOf s room ≡ Accepted w c e b → runOf s more ≡ Accepted w c e b
+unfolding runOf
+run-more s room more w c e b wider h =
+    let p = short (ltb 65536 (length s)) _ w c e b h in
+    rw (p .0) (settled-more (tell s .outcome) (tell s .reports) room more w c e b wider (p .1))

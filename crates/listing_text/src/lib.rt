@@ -1,0 +1,183 @@
+// The text that the listing program writes. Each `put` lets its text go into a lent buffer from a place on, as far as the
+// buffer goes, and answers the place behind it: on a buffer of no use it so tells how much room the text wants.
+ghost use mathlib.Core.Path.{_≡_};
+ghost use mathlib.Core.List.{_++_, _∷_, []};
+ghost use Rattle.listing_text.specs.Text.{decimal, Puts, Ends};
+ghost use Rattle.listing_text.specs.Lines.{three, refusedLine, nameOf, networkLine, reportLines, restLine};
+ghost use Rattle.listing_text.specs.Listing.{acceptedText, textOf, Lists};
+use schedule::Outcome;
+
+// What the listing answers: the refusal number, 0 where it was carried out, the bytes filled, and the room that the text wants.
+pub struct Listed {
+    pub refusal: u8,
+    pub bytes: usize,
+    pub wanted: usize,
+}
+
+fn put_byte(out: &mut [u8], at: usize, b: u8) -> usize
+    requires { ⌜ Ends (b ∷ []) at ⌝ }
+    ensures { λ r. ⌜ Puts (b ∷ []) at (now (out .entry)) r (now (out .exit)) ⌝ }
+{
+    let next = at + 1;
+    if at < out.len() {
+        out[at] = b;
+        return next;
+    }
+    next
+}
+
+fn put_text(out: &mut [u8], at: usize, text: &[u8]) -> usize
+    requires { ⌜ Ends (now text) at ⌝ }
+    ensures { λ r. ⌜ Puts (now (text .entry)) at (now (out .entry)) r (now (out .exit)) ⌝ }
+{
+    let mut next = at;
+    let mut i = 0;
+    while i < text.len() {
+        next = put_byte(out, next, text[i]);
+        i += 1;
+    }
+    next
+}
+
+// The digits of the tenth, then the last one.
+fn put_decimal(out: &mut [u8], at: usize, x: usize) -> usize
+    requires { ⌜ Ends (decimal x) at ⌝ }
+    ensures { λ r. ⌜ Puts (decimal x) at (now (out .entry)) r (now (out .exit)) ⌝ }
+{
+    if x < 10 {
+        return put_byte(out, at, 48 + x as u8);
+    }
+    let next = put_decimal(out, at, x / 10);
+    put_byte(out, next, 48 + (x % 10) as u8)
+}
+
+// A number and the byte behind it.
+fn put_number(out: &mut [u8], at: usize, x: usize, end: u8) -> usize
+    requires { ⌜ Ends (decimal x ++ (end ∷ [])) at ⌝ }
+    ensures { λ r. ⌜ Puts (decimal x ++ (end ∷ [])) at (now (out .entry)) r (now (out .exit)) ⌝ }
+{
+    let next = put_decimal(out, at, x);
+    put_byte(out, next, end)
+}
+
+fn put_three(out: &mut [u8], at: usize, a: usize, b: usize, c: usize) -> usize
+    requires { ⌜ Ends (three a b c) at ⌝ }
+    ensures { λ r. ⌜ Puts (three a b c) at (now (out .entry)) r (now (out .exit)) ⌝ }
+{
+    let second = put_number(out, at, a, b' ');
+    let third = put_number(out, second, b, b' ');
+    put_number(out, third, c, b'\n')
+}
+
+fn put_refused(out: &mut [u8], number: usize, index: usize, offset: usize) -> usize
+    requires { ⌜ Ends (refusedLine number index offset) 0 ⌝ }
+    ensures { λ r. ⌜ Puts (refusedLine number index offset) 0 (now (out .entry)) r (now (out .exit)) ⌝ }
+{
+    let next = put_text(out, 0, b"refused ");
+    put_three(out, next, number, index, offset)
+}
+
+fn put_name(out: &mut [u8], at: usize, construction: u16) -> usize
+    requires { ⌜ Ends (nameOf construction) at ⌝ }
+    ensures { λ r. ⌜ Puts (nameOf construction) at (now (out .entry)) r (now (out .exit)) ⌝ }
+{
+    if construction == 1 {
+        return put_text(out, at, b"bitonic\n");
+    }
+    put_text(out, at, b"periodic\n")
+}
+
+fn put_network(out: &mut [u8], width: usize, construction: u16) -> usize
+    requires { ⌜ Ends (networkLine width construction) 0 ⌝ }
+    ensures { λ r. ⌜ Puts (networkLine width construction) 0 (now (out .entry)) r (now (out .exit)) ⌝ }
+{
+    let first = put_text(out, 0, b"network ");
+    let second = put_number(out, first, width, b' ');
+    put_name(out, second, construction)
+}
+
+// A line for each of `count` reports.
+fn put_lines(out: &mut [u8], at: usize, reports: &[u8], count: usize) -> usize
+    requires { ⌜ Ends (reportLines count (now reports) 0) at ⌝ }
+    ensures { λ r. ⌜ Puts (reportLines count (now (reports .entry)) 0) at (now (out .entry)) r (now (out .exit)) ⌝ }
+{
+    let mut next = at;
+    let mut left = count;
+    let mut from = 0;
+    while 0 < left {
+        let token = records::field_of_two(reports, from + 4) as usize;
+        let exit = records::field_of_two(reports, from + 6) as usize;
+        let number = records::field_of_four(reports, from + 8) as usize;
+        next = put_three(out, next, token, exit, number);
+        from += 12;
+        left -= 1;
+    }
+    next
+}
+
+fn put_rest(out: &mut [u8], at: usize, entries: usize) -> usize
+    requires { ⌜ Ends (restLine entries) at ⌝ }
+    ensures { λ r. ⌜ Puts (restLine entries) at (now (out .entry)) r (now (out .exit)) ⌝ }
+{
+    let next = put_text(out, at, b"rest ");
+    put_number(out, next, entries, b'\n')
+}
+
+fn put_accepted(
+    out: &mut [u8],
+    width: u16,
+    construction: u16,
+    entries: u32,
+    bytes: usize,
+    reports: &[u8],
+) -> usize
+    requires { ⌜ Ends (acceptedText width construction entries bytes (now reports)) 0 ⌝ }
+    ensures { λ r. ⌜ Puts (acceptedText width construction entries bytes (now (reports .entry))) 0 (now (out .entry)) r (now (out .exit)) ⌝ }
+{
+    let first = put_network(out, width as usize, construction);
+    let second = put_lines(out, first, reports, bytes / 12);
+    put_rest(out, second, entries as usize)
+}
+
+// The text of an outcome, whose reports stand in front of `reports`.
+fn put_outcome(out: &mut [u8], outcome: Outcome, reports: &[u8]) -> usize
+    requires { ⌜ Ends (textOf outcome (now reports)) 0 ⌝ }
+    ensures { λ r. ⌜ Puts (textOf outcome (now (reports .entry))) 0 (now (out .entry)) r (now (out .exit)) ⌝ }
+{
+    match outcome {
+        Outcome::Accepted {
+            width,
+            construction,
+            entries,
+            bytes,
+        } => put_accepted(out, width, construction, entries, bytes, reports),
+        Outcome::Refused {
+            number,
+            record,
+            offset,
+        } => put_refused(out, number as usize, record, offset),
+    }
+}
+
+// The listing of a schedule, where there is room for it; else `out` stays, and the answer says how much is wanted.
+pub fn listing(bytes: &[u8], out: &mut [u8]) -> Listed
+    ensures { λ r. ⌜ Lists (now (bytes .entry)) (now (out .entry)) r (now (out .exit)) ⌝ }
+{
+    let mut reports = [0u8; 65536];
+    let outcome = schedule::run(bytes, &mut reports);
+    let mut scrap = [0u8; 1];
+    let wanted = put_outcome(&mut scrap, outcome, &reports);
+    if out.len() < wanted {
+        return Listed {
+            refusal: 17,
+            bytes: 0,
+            wanted: wanted,
+        };
+    }
+    put_outcome(out, outcome, &reports);
+    Listed {
+        refusal: 0,
+        bytes: wanted,
+        wanted: wanted,
+    }
+}
