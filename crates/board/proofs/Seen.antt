@@ -44,10 +44,6 @@ module _ (x : Board) (t v : ℕ) where
   unfolding downAt entering
   down-entering w L c = refl
 
-  pub entered-entering : entering x t v .entered ≡ x .entered + 1
-  unfolding entering
-  entered-entering = refl
-
 -- ---- passing: token t is a level further, on the wire of the outlet, and the cell's toggle is flipped
 module _ (w : ℕ) (x : Board) (t feeds : ℕ) where
   abbrev after : Board
@@ -79,10 +75,6 @@ module _ (w : ℕ) (x : Board) (t feeds : ℕ) where
   unfolding downAt passing
   down-passing-other K b apart = getD-set-other (x .toggles) (cellAt w L c) (cellAt w K b) _ false apart
 
-  pub entered-passing : after .entered ≡ x .entered
-  unfolding passing
-  entered-passing = refl
-
 -- ---- dealing: exit i has dealt one number more, and token t is free
 module _ (w : ℕ) (x : Board) (t i : ℕ) where
   abbrev dealt : Board
@@ -107,7 +99,3 @@ module _ (w : ℕ) (x : Board) (t i : ℕ) where
   pub down-dealing : (L c : ℕ) → downAt w dealt L c ≡ downAt w x L c
   unfolding downAt dealing
   down-dealing L c = refl
-
-  pub entered-dealing : dealt .entered ≡ x .entered
-  unfolding dealing
-  entered-dealing = refl

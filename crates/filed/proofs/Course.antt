@@ -2,24 +2,21 @@
 -- number dealt. In order: the run and its reports; the course; a record. Assumes nothing.
 use Prim.Native.Nat.{ℕ}
 use mathlib.Core.Path.{_≡_, refl}
-use mathlib.Core.Bool.{true, cond}
+use mathlib.Core.Bool.{Bool, true, false, cond}
 use mathlib.Core.List.{List, [], _∷_, _++_, append-nil}
 use native.Mathlib.Omega.{arith}
-use lib.Dec.{eqb}
-use borrow.Author.Tests.{eqb-true, eqb-false}
+use borrow.Author.Tests.{eqb-true, eq-eqb}
 use Rattle.network.specs.Widths.{openNo}
 use Rattle.board.specs.Sound.{insideSum}
-use Rattle.board.specs.Answer.{valuesOf}
-use Rattle.board.proofs.Lists.{cond-case, and-left}
+use Rattle.board.proofs.Lists.{and-left}
 use Rattle.run.specs.declared.Run.{Run}
 use Rattle.run.specs.Run.{fresh, openOf, enterOf, turnOf}
 use Rattle.records.specs.declared.Record.{Record}
 use Rattle.records.specs.declared.Record.the-variants.{Open, Enter, Turn, Close, Number}
-use Rattle.schedule.specs.declared.Course.{Course}
-use Rattle.schedule.specs.declared.Step.{Step}
-use Rattle.schedule.specs.Step.{course, atStart, silent, closes, stepOf, reportIf, reportOf}
+use Rattle.schedule.specs.Step.{Course, course, atStart, Step, closeNo, stepOf}
 use Rattle.promise.specs.History.{Call, enter, turn, callOf, callsOf, history}
-use Rattle.filed.specs.Filed.{callIn, reportsOf}
+use Rattle.filed.specs.Calls.{callIn}
+use Rattle.filed.specs.Filed.{reportsOf}
 use Rattle.filed.proofs.Calls.{history-more}
 use Rattle.filed.proofs.Reports.{reports-append, reports-dealOf}
 
@@ -29,9 +26,18 @@ pub record Reported (x : Run) (calls : List Call) (done : List ℕ) : Type 0 whe
   pub run : x ≡ history (x .width) (x .construction) calls .run
   pub reports : done ≡ reportsOf (history (x .width) (x .construction) calls .deals)
 
-reported-open : (w c : ℕ) → eqb (openNo w c) 0 ≡ true → Reported (openOf w c .run) [] []
+reported-open : (w c : ℕ) → openNo w c ≡ 0 → Reported (openOf w c .run) [] []
 unfolding openOf fresh history callsOf reportsOf
-reported-open w c h = rw h (record { allowed = eqb-true _ 0 h; run = rw h; reports = refl })
+reported-open w c h = let z = eq-eqb _ 0 h in rw z (record { allowed = h; run = rw z; reports = refl })
+
+zero-test : (b : Bool) → _≡_ {A = ℕ} (cond b 0 15) 0 → b ≡ true
+zero-test true h = refl
+zero-test false h = absurd (omega arith)
+
+-- a close that is not refused finds none inside
+close-empty : (x : Run) (e : ℕ) → closeNo x e ≡ 0 → insideSum (x .board) ≡ 0
+unfolding closeNo
+close-empty x e h = eqb-true _ 0 (and-left _ _ (zero-test _ h))
 
 -- ---- the course
 pub data Follows : Course → List Call → List ℕ → Type 0 where
@@ -43,23 +49,11 @@ pub data Follows : Course → List Call → List ℕ → Type 0 where
 -- a record is refused, or the course follows on with the record's call and report
 module _ (calls : List Call) (done : List ℕ) where
   Onward : List Call → Step → Type 0
-  Onward made y = y .refusal ≡ 0 → Follows (y .course) (calls ++ made) (done ++ reportOf y)
-
-  onward-silent : (x : Course) → Follows x calls done → Onward [] (silent 0 x)
-  unfolding Onward reportOf reportIf
-  onward-silent x f h = rw (append-nil calls, append-nil done) f
-
-  module _ (made : List Call) where
-    onward-refused : (n : ℕ) (x : Course) → (n ≡ 0 → ⊥) → Onward made (silent n x)
-    unfolding Onward
-    onward-refused n x apart h = absurd (apart h)
-
-    onward-unless : (n : ℕ) (x : Course) (y : Step) → (eqb n 0 ≡ true → Onward made y) → Onward made (cond (eqb n 0) y (silent n x))
-    onward-unless n x y f = cond-case (Onward made) (eqb n 0) y (silent n x) f (λ h. onward-refused n x (eqb-false n 0 h))
+  Onward made y = y .refusal ≡ 0 → Follows (y .course) (calls ++ made) (done ++ y .report)
 
 onward-open : (w c : ℕ) → Onward [] [] [] (stepOf atStart (Open w c))
-unfolding stepOf atStart openOf
-onward-open w c = onward-unless [] [] [] (openNo w c) _ _ (λ h. onward-silent [] [] _ (underway (reported-open w c h)))
+unfolding stepOf atStart openOf Onward
+onward-open w c h = underway (reported-open w c h)
 
 module _ {x : Run} {calls : List Call} {done : List ℕ} (r : Reported x calls done) where
   -- no call changes the width or the construction
@@ -74,25 +68,19 @@ module _ {x : Run} {calls : List Call} {done : List ℕ} (r : Reported x calls d
       }
 
   onward-enter : (t v : ℕ) → Onward calls done (enter t v ∷ []) (stepOf (course 1 x) (Enter t v))
-  unfolding stepOf callOf enterOf reportsOf Onward reportOf reportIf
-  onward-enter t v =
-      onward-unless calls done (enter t v ∷ []) (enterOf x t v .refusal) _ _ (λ h e. underway (reported-call (enter t v) refl refl))
+  unfolding stepOf callOf enterOf reportsOf Onward
+  onward-enter t v h = underway (reported-call (enter t v) refl refl)
 
   onward-turn : (t : ℕ) → Onward calls done (turn t ∷ []) (stepOf (course 1 x) (Turn t))
-  unfolding stepOf callOf turnOf Onward reportOf
-  onward-turn t =
-      onward-unless calls done (turn t ∷ []) (valuesOf (turnOf x t .answer) .refusal) _ _
-      (λ h e. rw reports-dealOf (underway (reported-call (turn t) refl refl)))
+  unfolding stepOf callOf turnOf Onward
+  onward-turn t h = rw reports-dealOf (underway (reported-call (turn t) refl refl))
 
   onward-close : (e : ℕ) → Onward calls done [] (stepOf (course 1 x) (Close e))
-  unfolding stepOf
-  onward-close e =
-      cond-case (Onward calls done []) (closes x e) _ _
-      (λ h. onward-silent calls done _ (closed r (eqb-true _ 0 (and-left _ _ h))))
-      (λ h. onward-refused calls done [] 15 _ (λ z. omega arith))
+  unfolding stepOf Onward
+  onward-close e h = rw (append-nil calls, append-nil done) (closed r (close-empty x e h))
 
 pub follows-step : {x : Course} {calls : List Call} {done : List ℕ} → Follows x calls done → (r : Record) → stepOf x r .refusal ≡ 0
-    → Follows (stepOf x r .course) (calls ++ callIn r) (done ++ reportOf (stepOf x r))
+    → Follows (stepOf x r .course) (calls ++ callIn r) (done ++ stepOf x r .report)
 unfolding stepOf atStart Onward callIn
 follows-step unopened (Open w c) h = onward-open w c h
 follows-step unopened (Enter t v) h = absurd (omega arith)

@@ -1,9 +1,9 @@
 -- Demand 3, on files: `filed-schedules`. The course of a schedule follows the history of its calls, and what is dealt in it is as
 -- demand 3 says. In order: at the end of a schedule; from a record on; the output. Assumes nothing.
-use Prim.Native.Nat.{ℕ, zero, suc, _+_, _*_}
+use Prim.Native.Nat.{ℕ, suc, _+_, _*_, _≤_}
 use mathlib.Core.Path.{_≡_, refl, sym, ap, _∙_}
 use mathlib.Core.Bool.{Bool, true, false, cond}
-use mathlib.Core.List.{List, _++_, append-assoc, append-nil}
+use mathlib.Core.List.{List, [], _++_, append-assoc, append-nil}
 use native.Mathlib.Decide.{decLt}
 use native.Mathlib.Omega.{arith}
 use lib.Dec.{ltb, leb, eqb}
@@ -15,21 +15,18 @@ use Rattle.network.specs.Widths.{widthOk, constructionOk, openNo}
 use Rattle.board.specs.Sound.{insideSum}
 use Rattle.board.proofs.Lists.{cond-case}
 use Rattle.run.specs.declared.Run.{Run}
-use Rattle.records.specs.declared.Record.{Record}
-use Rattle.records.specs.declared.Read.{Read}
-use Rattle.records.specs.declared.Read.the-variants.{Got, Refused as Unread}
-use Rattle.records.specs.Reading.{readNo, readOf}
-use Rattle.schedule.specs.declared.Course.{Course}
 use Rattle.schedule.specs.declared.Outcome.{Outcome}
 use Rattle.schedule.specs.declared.Outcome.the-variants.{Accepted, Refused}
-use Rattle.schedule.specs.Step.{course, atStart, stepOf, reportOf}
-use Rattle.schedule.specs.Schedule.{Told, stopped, accepted, onRead, tellFrom, tell}
+use Rattle.schedule.specs.Step.{Course, course, atStart, Step}
+use Rattle.schedule.specs.Schedule.{Told, stopped, accepted, tell}
+use Rattle.schedule.proofs.Told.{Stepped, told-from}
 use Rattle.schedule.specs.Whole.{settle, runOf, afterRun, outputOf, Values, valuesOf}
 use Rattle.promise.specs.History.{Call, Deal, history, times}
 use Rattle.promise.specs.Promise.{Promise}
 use Rattle.promise.proofs.Promise.{demand-3}
-use Rattle.promise.proofs.Reached.{Reached, history-reached}
-use Rattle.filed.specs.Filed.{callsFrom, callsIn, reportsOf, Filed, FiledSchedules}
+use Rattle.promise.proofs.Reached.{Reached, reached-size, history-reached}
+use Rattle.filed.specs.Calls.{callIn, callsFrom, callsIn}
+use Rattle.filed.specs.Filed.{reportsOf, Filed, FiledSchedules}
 use Rattle.filed.proofs.Calls.{calls-got, calls-none}
 use Rattle.filed.proofs.Reports.{length-reports}
 use Rattle.filed.proofs.Course.{Reported, Follows, follows-step}
@@ -44,12 +41,9 @@ files-stopped calls k n at apart h = absurd (apart h)
 
 -- ---- at the end
 -- as many numbers are dealt as have entered, 12 bytes each
-length-dealt : {x : Run} {dealt : List Deal} → Reached x dealt → insideSum (x .board) ≡ 0 → length dealt ≡ x .board .entered
-length-dealt r z = omega (arith, r .keeping .kept .size, r .keeping .kept .balanced .total)
-
 length-reported : {x : Run} {dealt : List Deal} → Reached x dealt → insideSum (x .board) ≡ 0
     → length (reportsOf dealt) ≡ 12 * x .board .entered
-length-reported r z = length-reports _ ∙ ap (λ (n : ℕ). 12 * n) (length-dealt r z)
+length-reported r z = length-reports _ ∙ omega (arith, reached-size r)
 
 module _ {x : Run} {calls : List Call} {done : List ℕ} (r : Reported x calls done) (z : insideSum (x .board) ≡ 0) where
   abbrev dealt : List Deal
@@ -82,44 +76,30 @@ files-accepted Follows.unopened h = absurd (omega arith)
 files-accepted (Follows.underway r) h = absurd (omega arith)
 files-accepted (Follows.closed r z) h = files-reported r z 2
 
--- ---- from a record on
-unread-apart : (b : Bool) (q : Record) (m n k : ℕ) → eqb n 0 ≡ b → cond b (Got q m) (Unread n) ≡ Unread k → k ≡ 0 → ⊥
-unread-apart true q m n k e h f = let never : _≡_ {A = ℕ} 0 1 = cc in omega arith
-unread-apart false q m n k e h f = let same : n ≡ k = cc in eqb-false n 0 e (same ∙ f)
+-- ---- record by record: the course follows the calls so far, and with those from here on they are those of the schedule
+record Along (s : List ℕ) (all : List Call) (more : ℕ) (x : Course) (at : ℕ) (done : List ℕ) : Type 0 where
+  pub calls : List Call
+  pub follows : Follows x calls done
+  pub whole : calls ++ callsFrom more s at ≡ all
 
-read-apart : (s : List ℕ) (k : ℕ) → readOf false s ≡ Unread k → k ≡ 0 → ⊥
-unfolding readOf
-read-apart s k h = unread-apart _ _ _ (readNo false s) k refl h
+along-passed : (s : List ℕ) (all : List Call) (more : ℕ) (x : Course) (at len : ℕ) (done : List ℕ) (y : Step) → Along s all (suc more) x at done
+    → Stepped s x at len y → y .refusal ≡ 0 → Along s all more (y .course) (at + len) (done ++ y .report)
+along-passed s all more x at len done y a p h = record {
+  calls = a .calls ++ callIn (p .item);
+  follows = rw (p .did) (follows-step (a .follows) (p .item) (rw (p .did) at h));
+  whole = rw (append-assoc, ← calls-got more s at (p .item) len (p .read)) (a .whole);
+}
 
-onRead-case : (P : Told → Type 0) (q : Read) (f : Record → ℕ → Told) (g : ℕ → Told)
-    → ((r : Record) (len : ℕ) → q ≡ Got r len → P (f r len)) → ((k : ℕ) → q ≡ Unread k → P (g k)) → P (onRead q f g)
-unfolding onRead
-onRead-case P (Got r len) f g a b = a r len refl
-onRead-case P (Unread k) f g a b = b k refl
-
-files-from : (more : ℕ) (s : List ℕ) {x : Course} (at n : ℕ) {calls : List Call} {done : List ℕ} → Follows x calls done
-    → Files (calls ++ callsFrom more s at) (tellFrom more s x at n done)
-unfolding tellFrom
-files-from zero s at n f = files-stopped _ 14 n at (λ e. omega arith)
-files-from (suc more) s {x} at n {calls} {done} f =
-    let all = calls ++ callsFrom (suc more) s at in
-    let early : Files all (stopped 14 n at) = files-stopped all 14 n at (λ e. omega arith) in
-    cond-case (Files all) (eqb (x .phase) 2) _ _
-    (λ h. cond-case (Files all) (ltb at (length s)) (stopped 14 n at) (accepted x done)
-    (λ l. early)
-    (λ l. rw (calls-none more s at (ltb-false _ _ l), append-nil) (files-accepted f (eqb-true _ 2 h))))
-    (λ h. cond-case (Files all) (ltb at (length s)) _ _
-    (λ l. onRead-case (Files all) (readOf false (drop at s)) _ _
-    (λ r len q. let y = stepOf x r in
-    cond-case (Files all) (eqb (y .refusal) 0) (tellFrom more s (y .course) (at + len) (n + 1) (done ++ reportOf y)) _
-    (λ e. rw (calls-got more s at r len q, ← append-assoc) (files-from more s (at + len) (n + 1) (follows-step f r (eqb-true _ 0 e))))
-    (λ e. files-stopped all _ n at (eqb-false _ 0 e)))
-    (λ k e. files-stopped all k n at (read-apart (drop at s) k e)))
-    (λ l. early))
+files-whole : (s : List ℕ) (all : List Call) (more : ℕ) (x : Course) (at : ℕ) (done : List ℕ) → Along s all (suc more) x at done → x .phase ≡ 2
+    → length s ≤ at → Files all (accepted x done)
+files-whole s all more x at done a closed end =
+    rw (← a .whole, calls-none more s at end, append-nil) (files-accepted (a .follows) closed)
 
 files-tell : (s : List ℕ) → Files (callsIn s) (tell s)
 unfolding tell callsIn
-files-tell s = files-from (suc (length s)) s 0 0 Follows.unopened
+files-tell s =
+    told-from s (Files (callsIn s)) (Along s (callsIn s)) (files-stopped (callsIn s)) (files-whole s (callsIn s)) (along-passed s (callsIn s))
+    (suc (length s)) atStart 0 0 [] (record { calls = []; follows = Follows.unopened; whole = refl })
 
 -- ---- the output
 length-filed : {calls : List Call} {reports : List ℕ} {a : Values} → Filed calls reports a → length reports ≡ a .bytes

@@ -1,43 +1,17 @@
 -- Demand 3, on files: an accepted schedule is the history of its own enters and turns, and its reports are the numbers dealt in it
 -- (01, "Schedule bytes"). The statement only; the proof is `filed-schedules` of proofs/Filed. Assumes nothing.
-use Prim.Native.Nat.{ℕ, zero, suc, _+_, _*_, _<_, _≤_}
+use Prim.Native.Nat.{ℕ, _*_, _<_, _≤_}
 use mathlib.Core.Path.{_≡_}
-use mathlib.Core.Bool.{false}
 use mathlib.Core.List.{List, [], _∷_, _++_}
-use lib.ListN.{length, take, drop}
+use lib.ListN.{length, take}
 use Rattle.network.specs.Widths.{openNo}
 use Rattle.board.specs.Sound.{insideSum}
-use Rattle.records.specs.declared.Record.{Record}
-use Rattle.records.specs.declared.Record.the-variants.{Open, Enter, Turn, Close, Number}
-use Rattle.records.specs.declared.Read.{Read}
-use Rattle.records.specs.declared.Read.the-variants.{Got, Refused as Unread}
-use Rattle.records.specs.Reading.{readOf}
+use Rattle.records.specs.declared.Record.the-variants.{Number}
 use Rattle.records.specs.Writing.{bytesOf}
 use Rattle.schedule.specs.Schedule.{tell}
 use Rattle.schedule.specs.Whole.{runOf, outputOf, Values, valuesOf}
-use Rattle.promise.specs.History.{Call, enter, turn, Deal, history, times}
-
--- the call that a record makes: none for an open, a close or a report
-unfoldable pub callIn : Record → List Call
-callIn (Open w c) = []
-callIn (Enter t v) = enter t v ∷ []
-callIn (Turn t) = turn t ∷ []
-callIn (Close e) = []
-callIn (Number t v n) = []
-
--- where a record was read, its call, and the calls behind its length
-unfoldable pub callsRead : Read → (ℕ → List Call) → List Call
-callsRead (Got r len) behind = callIn r ++ behind len
-callsRead (Unread k) behind = []
-
--- The calls from the offset `at` on, as far as records read. The first argument bounds the records; there are at most as many as
--- bytes.
-unfoldable pub callsFrom : ℕ → List ℕ → ℕ → List Call
-callsFrom zero s at = []
-callsFrom (suc more) s at = callsRead (readOf false (drop at s)) (λ len. callsFrom more s (at + len))
-
-unfoldable pub callsIn : List ℕ → List Call
-callsIn s = callsFrom (suc (length s)) s 0
+use Rattle.promise.specs.History.{Call, Deal, history, times}
+use Rattle.filed.specs.Calls.{callsIn}
 
 -- the kind 5 records of the numbers dealt, in the order of dealing
 unfoldable pub reportsOf : List Deal → List ℕ

@@ -8,43 +8,12 @@ use native.Mathlib.Omega.{arith}
 use lib.ListN.{length, drop}
 use lib.Dec.{ltb, leb, eqb}
 use borrow.Author.Tests.{leb-true, le-leb}
-use Rattle.records.specs.declared.Record.{Record}
-use Rattle.records.specs.declared.Read.{Read}
-use Rattle.records.specs.declared.Read.the-variants.{Got, Refused as Unread}
-use Rattle.records.specs.Reading.{readOf}
-use Rattle.schedule.specs.declared.Course.{Course}
 use Rattle.schedule.specs.declared.Outcome.{Outcome}
 use Rattle.schedule.specs.declared.Outcome.the-variants.{Accepted, Refused}
-use Rattle.schedule.specs.Step.{atStart, stepOf, reportOf}
-use Rattle.schedule.specs.Schedule.{Told, stopped, accepted, onRead, tellFrom, tell}
+use Rattle.schedule.specs.Step.{Course, atStart}
+use Rattle.schedule.specs.Schedule.{Told, stopped, accepted, tell}
+use Rattle.schedule.proofs.Told.{told-from}
 use Rattle.schedule.specs.Whole.{settle, runOf}
-
--- ---- a schedule is stopped or accepted
-module _ (P : Told → Type 0) (is-stopped : (k n at : ℕ) → P (stopped k n at)) (is-accepted : (x : Course) (done : List ℕ) → P (accepted x done)) where
-  by-test : (b : Bool) (t u : Told) → P t → P u → P (cond b t u)
-  by-test true t u p q = p
-  by-test false t u p q = q
-
-  by-read : (r : Read) (f : Record → ℕ → Told) (g : ℕ → Told) → ((i : Record) (len : ℕ) → P (f i len)) → ((k : ℕ) → P (g k)) → P (onRead r f g)
-  unfolding onRead
-  by-read (Got i len) f g p q = p i len
-  by-read (Unread k) f g p q = q k
-
-  told-from : (more : ℕ) (s : List ℕ) (x : Course) (at n : ℕ) (done : List ℕ) → P (tellFrom more s x at n done)
-  unfolding tellFrom
-  told-from zero s x at n done = is-stopped 14 n at
-  told-from (suc more) s x at n done =
-      by-test (eqb (x .phase) 2) _ _
-      (by-test (ltb at (length s)) _ _ (is-stopped 14 n at) (is-accepted x done))
-      (by-test (ltb at (length s)) _ _
-      (by-read (readOf false (drop at s)) _ _
-      (λ r len.
-      let y = stepOf x r in
-      by-test (eqb (y .refusal) 0) _ _
-      (told-from more s (y .course) (at + len) (n + 1) (done ++ reportOf y))
-      (is-stopped (y .refusal) n at))
-      (λ k. is-stopped k n at))
-      (is-stopped 14 n at))
 
 -- ---- the bytes that an outcome tells
 pub record Bytes (t : Told) (room b : ℕ) : Type 0 where
@@ -54,9 +23,9 @@ pub record Bytes (t : Told) (room b : ℕ) : Type 0 where
 AllTold : Told → Type 0
 AllTold t = (w c e b : ℕ) → t .outcome ≡ Accepted w c e b → b ≡ length (t .reports)
 
-all-stopped : (k n at : ℕ) → AllTold (stopped k n at)
+all-stopped : (k n at : ℕ) → (k ≡ 0 → ⊥) → AllTold (stopped k n at)
 unfolding AllTold
-all-stopped k n at w c e b h = let never : _≡_ {A = ℕ} 0 1 = cc in absurd (omega arith)
+all-stopped k n at apart w c e b h = let never : _≡_ {A = ℕ} 0 1 = cc in absurd (omega arith)
 
 all-accepted : (x : Course) (done : List ℕ) → AllTold (accepted x done)
 unfolding AllTold
@@ -64,7 +33,9 @@ all-accepted x done w c e b h = let all-of-them : length done ≡ b = cc in sym 
 
 all-told : (s : List ℕ) → AllTold (tell s)
 unfolding tell
-all-told s = told-from AllTold all-stopped all-accepted (suc (length s)) s atStart 0 0 []
+all-told s =
+    told-from s AllTold (λ more x at done. Unit) all-stopped (λ more x at done kept closed end. all-accepted x done)
+    (λ more x at len done y kept p e. tt) (suc (length s)) atStart 0 0 [] tt
 
 -- what is accepted behind a test that may refuse
 passed : (x : Bool) (o : Outcome) (k w c e b : ℕ) → cond x o (Refused k 0 0) ≡ Accepted w c e b → (x ≡ true) × (o ≡ Accepted w c e b)

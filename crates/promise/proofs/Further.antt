@@ -23,7 +23,7 @@ use Rattle.promise.specs.Further.{TrueCounts, NextNumber, OneByOne, unde
 use Rattle.promise.proofs.Book.{Book, below-yes, times-append, times-one, dealtTo-one, dealtAt-append, dealtAt-one, undealt-short}
 use Rattle.promise.proofs.Record.{none-inside}
 use Rattle.promise.proofs.Builds.{builds-fit}
-use Rattle.promise.proofs.Reached.{Reached, history-reached, reached-call, reached-calls, width-calls, history-width, history-depth}
+use Rattle.promise.proofs.Reached.{Reached, reached-size, history-reached, reached-call, reached-calls, width-calls, history-width, history-depth}
 use Rattle.promise.proofs.Promise.{reached-promise}
 use Rattle.promise.proofs.Pace.{inside-token, paced-calls, paced-dealt, entered-stands}
 
@@ -34,10 +34,6 @@ true-counts = record {
 }
 
 -- ---- one after another
--- as many numbers are dealt as have entered and are not inside
-reached-size : {x : Run} {dealt : List Deal} → Reached x dealt → length dealt + insideSum (x .board) ≡ x .board .entered
-reached-size r = omega (arith, r .keeping .kept .size, r .keeping .kept .balanced .total)
-
 -- at rest each exit has dealt its share
 rest-count : (w : ℕ) (x : Board) (dealt : List Deal) → Promise w x dealt → insideSum x ≡ 0
     → (i : ℕ) → i < w → countAt x i ≡ share (x .entered) i w

@@ -1,14 +1,16 @@
 -- A run that is reached from an opening, with the numbers dealt on the way: it is sound, and it keeps what every layered network
 -- keeps. In order: one step; a call; calls; a history. Assumes nothing.
-use Prim.Native.Nat.{ℕ, _<_}
+use Prim.Native.Nat.{ℕ, _+_, _<_}
 use mathlib.Core.Path.{_≡_, refl, ap, _∙_}
 use mathlib.Core.Bool.{true}
 use mathlib.Core.List.{List, [], _∷_, _++_, append-assoc, append-nil}
 use native.Mathlib.Omega.{arith}
+use lib.ListN.{length}
 use borrow.Author.Tests.{eq-eqb}
 use Rattle.network.specs.Widths.{openNo, depthOf}
 use Rattle.board.specs.declared.Board.{Board}
 use Rattle.board.specs.Board.{placeAt}
+use Rattle.board.specs.Sound.{insideSum}
 use Rattle.board.proofs.Sound.{Inside, inside-at}
 use Rattle.run.specs.declared.Run.{Run}
 use Rattle.run.specs.Run.{fresh, openOf, sound, depthIn, feedsOf, withBoard, enterOf, turnOf}
@@ -29,6 +31,10 @@ pub record Reached (x : Run) (dealt : List Deal) : Type 0 where
   pub shaped : Shaped x
   pub is-sound : sound x ≡ true
   pub keeping : Keeping x dealt
+
+-- as many numbers are dealt as have entered and are not inside
+pub reached-size : {x : Run} {dealt : List Deal} → Reached x dealt → length dealt + insideSum (x .board) ≡ x .board .entered
+reached-size r = omega (arith, r .keeping .kept .size, r .keeping .kept .balanced .total)
 
 -- the place of a token inside
 pub reached-inside : {x : Run} {dealt : List Deal} → Reached x dealt → (t : ℕ) → t < 256 → placeAt (x .board) t .inside ≡ true

@@ -109,14 +109,3 @@ read-length reports s r n h =
       within = rw (g .size) (g .whole .body);
       is-size = g .size ∙ sym (rw (g .item) (ap lengthOf (kind-recordIn reports s (kindIn s) (g .whole .of-kind))));
     }
-
--- in a schedule no record is a report
-pub read-no-number : (s : List ℕ) (r : Record) (n : ℕ) → readOf false s ≡ Got r n → kindOf r ≡ 5 → ⊥
-unfolding known
-read-no-number s r n h five =
-    let g = read→gotten false s r n h in
-    let kind = kind-recordIn false s (kindIn s) (g .whole .of-kind) in
-    let is-five : kindIn s ≡ 5 = rw (← kind, ← g .item) five in
-    let no : false ≡ true = rw is-five at (g .whole .of-kind) in
-    let z : _≡_ {A = ℕ} 0 1 = cc in
-    omega arith

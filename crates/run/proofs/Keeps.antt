@@ -1,5 +1,5 @@
 -- What every call keeps. In order: a sound run's parts; the run as it opens; what holds where a call is not refused; the place that
--- a token's wire feeds; shape, soundness, width and construction are kept; a sound run is never refused by 9. Assumes nothing.
+-- a token's wire feeds; shape, soundness and width are kept; a sound run is never refused by 9. Assumes nothing.
 use mathlib.Core.Path.{_≡_, refl, _∙_, sym}
 use mathlib.Core.Bool.{true, false, _&&_}
 use Prim.Native.Nat.{ℕ, _≤_}
@@ -115,17 +115,9 @@ pub enter-width : (x : Run) (t v : ℕ) → enterOf x t v .run .width ≡ x .wid
 unfolding enterOf
 enter-width x t v = refl
 
-pub enter-construction : (x : Run) (t v : ℕ) → enterOf x t v .run .construction ≡ x .construction
-unfolding enterOf
-enter-construction x t v = refl
-
 pub turn-width : (x : Run) (t : ℕ) → turnOf x t .run .width ≡ x .width
 unfolding turnOf
 turn-width x t = refl
-
-pub turn-construction : (x : Run) (t : ℕ) → turnOf x t .run .construction ≡ x .construction
-unfolding turnOf
-turn-construction x t = refl
 
 -- ---- a sound run is never refused by 9
 pub enter-never-9 : (x : Run) (t v : ℕ) → sound x ≡ true → enterOf x t v .refusal ≡ 9 → ⊥

@@ -1,6 +1,7 @@
 mod Ready
 mod Reports
-mod Told
+pub mod Told
 mod Loop
+mod Spot
 mod Whole
 pub mod Cases

@@ -1,25 +1,23 @@
 -- Through a schedule the run stays sound from the open to the close, so that no record has to judge it. Assumes nothing.
 use mathlib.Core.Path.{_≡_}
 use mathlib.Core.Bool.{Bool, true, cond}
+use mathlib.Core.List.{[]}
 use Prim.Native.Nat.{ℕ}
 use native.Mathlib.Omega.{arith}
 use lib.Dec.{eqb}
-use borrow.Author.Tests.{eqb-true}
-use Rattle.board.specs.Answer.{valuesOf}
+use borrow.Author.Tests.{eqb-true, eq-eqb}
 use Rattle.board.proofs.Lists.{cond-case}
 use Rattle.run.specs.declared.Run.{Run}
 use Rattle.run.specs.Run.{fresh, openOf, enterOf, turnOf, sound}
 use Rattle.run.proofs.Keeps.{Shaped, shaped-fresh, shaped-enter, shaped-turn, fresh-sound, enter-keeps, turn-keeps}
 use Rattle.records.specs.declared.Record.{Record}
 use Rattle.records.specs.declared.Record.the-variants.{Open, Enter, Turn, Close, Number}
-use Rattle.schedule.specs.declared.Course.{Course}
-use Rattle.schedule.specs.declared.Step.{Step}
-use Rattle.schedule.specs.Step.{course, atStart, silent, closes, stepOf}
-use Rattle.schedule.specs.Pass.{Underway}
+use Rattle.schedule.specs.Step.{Course, course, atStart, Step, step, inPhase, stepOf}
 
 pub record Ready (x : Course) : Type 0 where
   pub shaped : Shaped (x .run)
-  pub underway : Underway x
+  -- between the open and the close
+  pub underway : x .phase ≡ 1 → sound (x .run) ≡ true
 
 ready-sound : (y : Run) → Shaped y → sound y ≡ true → Ready (course 1 y)
 ready-sound y s h = record { shaped = s; underway = λ e. h }
@@ -32,30 +30,27 @@ pub ready-start : Ready atStart
 unfolding atStart
 ready-start = ready-idle 0 (fresh 0 0) (λ e. omega arith) (shaped-fresh 0 0)
 
-ready-open : (w c : ℕ) → eqb (openOf w c .refusal) 0 ≡ true → Ready (course 1 (openOf w c .run))
+ready-open : (w c : ℕ) → openOf w c .refusal ≡ 0 → Ready (course 1 (openOf w c .run))
 unfolding openOf
-ready-open w c h = rw h (ready-sound (fresh w c) (shaped-fresh w c) (fresh-sound w c (eqb-true _ 0 h)))
+ready-open w c h = rw (eq-eqb _ 0 h) (ready-sound (fresh w c) (shaped-fresh w c) (fresh-sound w c h))
 
 module _ (x : Course) (ready : Ready x) where
-  -- a record out of its place, or refused, leaves the course
-  ready-when : (b : Bool) (y : Step) (n : ℕ) → (b ≡ true → Ready (y .course)) → Ready (cond b y (silent n x) .course)
-  ready-when b y n h = cond-case (λ (z : Step). Ready (z .course)) b y (silent n x) h (λ e. ready)
+  -- what is to be shown of what a record gives
+  Onward : Step → Type 0
+  Onward y = y .refusal ≡ 0 → Ready (y .course)
 
-  going-on : eqb (x .phase) 1 ≡ true → sound (x .run) ≡ true
-  going-on h = ready .underway (eqb-true _ 1 h)
+  in-phase : (p : ℕ) (y : Step) → (x .phase ≡ p → Onward y) → Onward (inPhase p x y)
+  unfolding Onward
+  in-phase p y h = cond-case Onward (eqb (x .phase) p) y (step 14 [] x) (λ e. h (eqb-true _ p e)) (λ e z. ready)
 
-  pub ready-step : (r : Record) → Ready (stepOf x r .course)
-  unfolding stepOf
-  ready-step (Open w c) = ready-when (eqb (x .phase) 0) _ 14 (λ p. ready-when (eqb (openOf w c .refusal) 0) _ _ (ready-open w c))
+  pub ready-step : (r : Record) → stepOf x r .refusal ≡ 0 → Ready (stepOf x r .course)
+  unfolding stepOf Onward
+  ready-step (Open w c) = in-phase 0 _ (λ p. ready-open w c)
   ready-step (Enter t v) =
-      ready-when (eqb (x .phase) 1) _ 14
-      (λ p. ready-when (eqb (enterOf (x .run) t v .refusal) 0) _ _
-      (λ h. ready-sound _ (shaped-enter (x .run) (ready .shaped) t v) (enter-keeps (x .run) t v (ready .shaped) (going-on p))))
+      in-phase 1 _
+      (λ p h. ready-sound _ (shaped-enter (x .run) (ready .shaped) t v) (enter-keeps (x .run) t v (ready .shaped) (ready .underway p)))
   ready-step (Turn t) =
-      ready-when (eqb (x .phase) 1) _ 14
-      (λ p. ready-when (eqb (valuesOf (turnOf (x .run) t .answer) .refusal) 0) _ _
-      (λ h. ready-sound _ (shaped-turn (x .run) (ready .shaped) t) (turn-keeps (x .run) t (ready .shaped) (going-on p))))
-  ready-step (Close e) =
-      ready-when (eqb (x .phase) 1) _ 14
-      (λ p. ready-when (closes (x .run) e) _ 15 (λ h. ready-idle 2 (x .run) (λ e. omega arith) (ready .shaped)))
-  ready-step (Number t v n) = ready
+      in-phase 1 _
+      (λ p h. ready-sound _ (shaped-turn (x .run) (ready .shaped) t) (turn-keeps (x .run) t (ready .shaped) (ready .underway p)))
+  ready-step (Close e) = in-phase 1 _ (λ p h. ready-idle 2 (x .run) (λ e. omega arith) (ready .shaped))
+  ready-step (Number t v n) = λ h. ready

@@ -1,5 +1,5 @@
--- Reports. In order: a report has at most 12 bytes; what noting one comes to, dealt or not, written or not; the output with the
--- reports done so far, and with one more. Assumes nothing.
+-- Reports. In order: a report has at most 12 bytes, and is none where a turn is refused; what noting one comes to, written or not;
+-- the output with the reports done so far, and with one more. Assumes nothing.
 use mathlib.Core.Path.{_≡_, refl, _∙_}
 use mathlib.Core.Bool.{Bool, true, false, cond}
 use mathlib.Core.List.{List, [], _++_}
@@ -7,33 +7,38 @@ use Prim.Native.Nat.{ℕ, _+_, _≤_}
 use native.Mathlib.Nat.{add-zero}
 use native.Mathlib.Omega.{arith}
 use lib.ListN.{length, take-append-drop, length-append, length-drop}
+use Rattle.board.specs.declared.Turn.{Turn}
+use Rattle.board.specs.declared.Turn.the-variants.{Passed, Dealt, Refused}
+use Rattle.board.specs.Answer.{valuesOf}
 use Rattle.records.specs.declared.Record.{Record}
-use Rattle.records.specs.declared.Record.the-variants.{Open, Enter, Turn, Close, Number}
+use Rattle.records.specs.declared.Record.the-variants.{Open, Enter, Turn as TurnRecord, Close, Number}
 use Rattle.records.specs.Fields.{placed}
 use Rattle.records.specs.Reading.{lengthOf}
 use Rattle.records.specs.Writing.{sizeOf, bytesOf}
 use Rattle.order.specs.Order.{over}
 use Rattle.records.proofs.Writing.{length-bytesOf, over-more}
-use Rattle.schedule.specs.declared.Step.{Step}
-use Rattle.schedule.specs.Step.{reportIf, reportOf}
-use Rattle.schedule.specs.Pass.{RoomFor, Noted}
+use Rattle.schedule.specs.Step.{reportOf}
+use Rattle.schedule.specs.Pass.{Noted}
 
 pub size-most : (r : Record) → sizeOf r ≤ 12
 unfolding sizeOf lengthOf
 size-most (Open w c) = omega arith
 size-most (Enter t v) = omega arith
-size-most (Turn t) = omega arith
+size-most (TurnRecord t) = omega arith
 size-most (Close e) = omega arith
 size-most (Number t v n) = omega arith
 
-length-reportIf : (b : Bool) (r : Record) → length (reportIf b r) ≤ 12
-unfolding reportIf
-length-reportIf true r = rw length-bytesOf (size-most r)
-length-reportIf false r = omega arith
-
-pub length-reportOf : (y : Step) → length (reportOf y) ≤ 12
+pub length-reportOf : (t : ℕ) (a : Turn) → length (reportOf t a) ≤ 12
 unfolding reportOf
-length-reportOf y = length-reportIf (y .dealt) _
+length-reportOf t (Passed l v) = omega arith
+length-reportOf t (Dealt i n) = rw length-bytesOf (size-most (Number t i n))
+length-reportOf t (Refused k) = omega arith
+
+pub report-refused : (t : ℕ) (a : Turn) → (valuesOf a .refusal ≡ 0 → ⊥) → reportOf t a ≡ []
+unfolding reportOf valuesOf
+report-refused t (Passed l v) h = refl
+report-refused t (Dealt i n) h = absurd (h refl)
+report-refused t (Refused k) h = refl
 
 -- ---- a report noted
 placed-none : (out : List ℕ) (at : ℕ) (w : Bool) → out ≡ cond w (placed out at []) out
@@ -41,27 +46,19 @@ unfolding placed
 placed-none out at true = rw (add-zero, take-append-drop)
 placed-none out at false = refl
 
-module _ (out : List ℕ) (filled : ℕ) (writing : Bool) (r : Record) where
-  pub noted-none : (b : Bool) → b ≡ false → Noted (reportIf b r) writing filled out filled out
-  unfolding reportIf
-  noted-none b e = rw e (record { counted = omega arith; output = placed-none out filled writing })
+module _ (out : List ℕ) (filled : ℕ) (writing : Bool) where
+  pub noted-none : Noted [] writing filled out filled out
+  noted-none = record { counted = omega arith; output = placed-none out filled writing }
 
-  module _ (b : Bool) (dealt : b ≡ true) where
-    pub room-report : RoomFor (reportIf b r) writing filled out → writing ≡ true → filled + sizeOf r ≤ length out
-    unfolding reportIf
-    room-report room e = rw (dealt, length-bytesOf) at (room .enough e)
+  module _ (r : Record) {m : ℕ} (size : m ≡ sizeOf r) where
+    counted-report : filled + m ≡ filled + length (bytesOf r)
+    counted-report = rw (length-bytesOf, size)
 
-    module _ (m : ℕ) (size : m ≡ sizeOf r) where
-      counted-report : filled + m ≡ filled + length (reportIf b r)
-      unfolding reportIf
-      counted-report = rw (dealt, length-bytesOf, size)
+    pub noted-unwritten : writing ≡ false → Noted (bytesOf r) writing filled out (filled + m) out
+    noted-unwritten e = record { counted = counted-report; output = rw e }
 
-      pub noted-unwritten : writing ≡ false → Noted (reportIf b r) writing filled out (filled + m) out
-      noted-unwritten e = record { counted = counted-report; output = rw e }
-
-      pub noted-written : writing ≡ true → (out′ : List ℕ) → out′ ≡ placed out filled (bytesOf r) → Noted (reportIf b r) writing filled out (filled + m) out′
-      unfolding reportIf
-      noted-written e out′ h = record { counted = counted-report; output = rw (e, dealt, h) }
+    pub noted-written : writing ≡ true → {out′ : List ℕ} → out′ ≡ placed out filled (bytesOf r) → Noted (bytesOf r) writing filled out (filled + m) out′
+    noted-written e h = record { counted = counted-report; output = rw (e, h) }
 
 -- ---- the output with the reports done in front
 pub over-none : (w : Bool) (out : List ℕ) → out ≡ cond w (over [] out) out

@@ -1,56 +1,68 @@
 -- What is told of a schedule from a record on. In order: a record that is read and carried out; the definition at each way out of
--- the loop and at a record passed; the reports only grow. Assumes nothing.
-use mathlib.Core.Path.{_≡_, sym, _∙_, ap}
+-- the loop and at a record passed; what holds of every schedule, record by record; the reports. Assumes nothing.
+use mathlib.Core.Path.{_≡_, refl, sym, _∙_, ap}
 use mathlib.Core.Bool.{Bool, true, false, cond}
-use mathlib.Core.List.{List, _++_}
+use mathlib.Core.List.{List, [], _++_}
 use Prim.Native.Nat.{ℕ, zero, suc, _+_, _-_, _<_, _≤_}
 use native.Mathlib.Omega.{arith}
 use lib.ListN.{length, take, drop, length-append, length-drop}
 use lib.Seq.{take-all}
 use lib.Dec.{ltb, eqb}
-use borrow.Author.Tests.{lt-ltb, le-ltb, eq-eqb, ne-eqb}
+use borrow.Author.Tests.{lt-ltb, le-ltb, ltb-true, ltb-false, eq-eqb, ne-eqb, eqb-true, eqb-false}
+use Rattle.board.proofs.Lists.{cond-case}
 use Rattle.records.specs.declared.Record.{Record}
 use Rattle.records.specs.declared.Read.{Read}
 use Rattle.records.specs.declared.Read.the-variants.{Got, Refused as Unread}
-use Rattle.records.specs.Reading.{readOf}
+use Rattle.records.specs.Reading.{readNo, readOf}
 use Rattle.records.proofs.Reading.{read-length}
-use Rattle.schedule.specs.declared.Course.{Course}
-use Rattle.schedule.specs.declared.Step.{Step}
 use Rattle.schedule.specs.declared.Outcome.the-variants.{Accepted}
-use Rattle.schedule.specs.Step.{stepOf, reportOf}
-use Rattle.schedule.specs.Schedule.{Told, stopped, accepted, onRead, tellFrom, tell}
+use Rattle.schedule.specs.Step.{Course, atStart, Step, stepOf}
+use Rattle.schedule.specs.Schedule.{Told, stopped, accepted, recordAt, onRead, tellFrom, tell}
 use Rattle.schedule.specs.Pass.{Fits}
+
+-- ---- the record at an offset
+-- the part of a slice from a place on, as the code lends it
+pub record-part : (s : List ℕ) (at : ℕ) → at < length s → readOf false (take (length s - at) (drop at s)) ≡ recordAt s at
+unfolding recordAt
+record-part s at h = rw (take-all (length s - at) (drop at s) (simp length-drop (omega arith)), lt-ltb _ _ h)
+
+pub record-none : (s : List ℕ) (at : ℕ) → length s ≤ at → Unread 14 ≡ recordAt s at
+unfolding recordAt
+record-none s at h = rw (le-ltb _ _ h)
+
+read-apart : (b : Bool) (q : Record) (m n k : ℕ) → eqb n 0 ≡ b → cond b (Got q m) (Unread n) ≡ Unread k → k ≡ 0 → ⊥
+read-apart true q m n k e h f = let never : _≡_ {A = ℕ} 0 1 = cc in omega arith
+read-apart false q m n k e h f = let same : n ≡ k = cc in eqb-false n 0 e (same ∙ f)
+
+-- a record that is there is read behind the offset; one that is not has a number
+pub record At (s : List ℕ) (at len : ℕ) : Type 0 where
+  pub more : at < length s
+  pub onward : 1 ≤ len
+  pub within : at + len ≤ length s
+
+at-got : (b : Bool) (s : List ℕ) (at : ℕ) (item : Record) (len : ℕ) → ltb at (length s) ≡ b
+    → cond b (readOf false (drop at s)) (Unread 14) ≡ Got item len → At s at len
+at-got true s at item len e h =
+    let more = ltb-true _ _ e in
+    let l = read-length false (drop at s) item len h in
+    record { more = more; onward = omega (arith, l .least); within = omega (arith, l .within, length-drop at s) }
+at-got false s at item len e h = let never : _≡_ {A = ℕ} 0 1 = cc in absurd (omega arith)
+
+at-unread : (b : Bool) (s : List ℕ) (at k : ℕ) → cond b (readOf false (drop at s)) (Unread 14) ≡ Unread k → k ≡ 0 → ⊥
+unfolding readOf
+at-unread true s at k h z = read-apart _ _ _ (readNo false (drop at s)) k refl h z
+at-unread false s at k h z = let same : 14 ≡ k = cc in omega arith
 
 -- ---- a record that is read and carried out: what is known of it, at the course x and the offset `at`
 pub record Stepped (s : List ℕ) (x : Course) (at len : ℕ) (y : Step) : Type 0 where
   pub running : x .phase ≡ 2 → ⊥
-  pub more : at < length s
   pub item : Record
-  pub read : readOf false (drop at s) ≡ Got item len
+  pub read : recordAt s at ≡ Got item len
   pub did : y ≡ stepOf x item
-  pub onward : 1 ≤ len
-  pub within : at + len ≤ length s
 
--- the part of a slice from a place on, as the code lends it
-part-whole : (s : List ℕ) (at : ℕ) → take (length s - at) (drop at s) ≡ drop at s
-part-whole s at = take-all (length s - at) (drop at s) (simp length-drop (omega arith))
-
-pub read-part : (s : List ℕ) (at : ℕ) {q r : Read} → q ≡ readOf false (take (length s - at) (drop at s)) → q ≡ r → readOf false (drop at s) ≡ r
-read-part s at e f = rw (← part-whole s at) (sym e ∙ f)
-
-pub stepped : {s : List ℕ} {x : Course} {at len : ℕ} {y : Step} {q : Read} {item : Record} → (x .phase ≡ 2 → ⊥) → at < length s → q ≡ readOf false (take (length s - at) (drop at s)) → q ≡ Got item len → y ≡ stepOf x item → Stepped s x at len y
-stepped {s} {x} {at} {len} {y} {q} {item} running more e f did =
-    let read = read-part s at e f in
-    let l = read-length false (drop at s) item len read in
-    record {
-      running = running;
-      more = more;
-      item = item;
-      read = read;
-      did = did;
-      onward = omega (arith, l .least);
-      within = omega (arith, l .within, length-drop at s);
-    }
+pub place : {s : List ℕ} {x : Course} {at len : ℕ} {y : Step} → Stepped s x at len y → At s at len
+unfolding recordAt
+place {s} {at = at} {len = len} p = at-got _ s at (p .item) len refl (p .read)
 
 -- ---- the definition, from record n on
 module _ (s : List ℕ) (x : Course) (at n : ℕ) (done : List ℕ) (few : n ≤ length s) where
@@ -70,68 +82,72 @@ module _ (s : List ℕ) (x : Course) (at n : ℕ) (done : List ℕ) (few : n ≤
     unfolding tellFrom
     rest-whole h = opens ∙ rw (eq-eqb _ 2 closed, le-ltb _ _ h)
 
-  module _ (running : x .phase ≡ 2 → ⊥) where
-    pub rest-early : length s ≤ at → Rest ≡ stopped 14 n at
-    unfolding tellFrom
-    rest-early h = opens ∙ rw (ne-eqb _ 2 running, le-ltb _ _ h)
-
-    pub rest-unread : at < length s → (k : ℕ) → readOf false (drop at s) ≡ Unread k → Rest ≡ stopped k n at
-    unfolding tellFrom onRead
-    rest-unread h k e = opens ∙ rw (ne-eqb _ 2 running, lt-ltb _ _ h, e)
+  pub rest-unread : (x .phase ≡ 2 → ⊥) → (k : ℕ) → recordAt s at ≡ Unread k → Rest ≡ stopped k n at
+  unfolding tellFrom onRead
+  rest-unread running k e = opens ∙ rw (ne-eqb _ 2 running, e)
 
   module _ (len : ℕ) (y : Step) (p : Stepped s x at len y) where
     pub rest-refused : (y .refusal ≡ 0 → ⊥) → Rest ≡ stopped (y .refusal) n at
     unfolding tellFrom onRead
-    rest-refused h = opens ∙ rw (ne-eqb _ 2 (p .running), lt-ltb _ _ (p .more), p .read, ← p .did, ne-eqb _ 0 h)
+    rest-refused h = opens ∙ rw (ne-eqb _ 2 (p .running), p .read, ← p .did, ne-eqb _ 0 h)
 
-    pub rest-passed : y .refusal ≡ 0 → Rest ≡ tellFrom (suc (length s) - (n + 1)) s (y .course) (at + len) (n + 1) (done ++ reportOf y)
+    pub rest-passed : y .refusal ≡ 0 → Rest ≡ tellFrom (suc (length s) - (n + 1)) s (y .course) (at + len) (n + 1) (done ++ y .report)
     unfolding tellFrom onRead
     rest-passed h =
         let one-less : length s - n ≡ suc (length s) - (n + 1) = omega arith in
         opens
-        ∙ rw (ne-eqb _ 2 (p .running), lt-ltb _ _ (p .more), p .read, ← p .did, eq-eqb _ 0 h)
-        (ap (λ (f : ℕ). tellFrom f s (y .course) (at + len) (n + 1) (done ++ reportOf y)) one-less)
+        ∙ rw (ne-eqb _ 2 (p .running), p .read, ← p .did, eq-eqb _ 0 h)
+        (ap (λ (f : ℕ). tellFrom f s (y .course) (at + len) (n + 1) (done ++ y .report)) one-less)
+
+-- ---- of every schedule: what holds where it is stopped and where it is accepted, and is kept by each record passed
+read-case : (P : Told → Type 0) (q : Read) (f : Record → ℕ → Told) (g : ℕ → Told)
+    → ((r : Record) (len : ℕ) → q ≡ Got r len → P (f r len)) → ((k : ℕ) → q ≡ Unread k → P (g k)) → P (onRead q f g)
+unfolding onRead
+read-case P (Got r len) f g a b = a r len refl
+read-case P (Unread k) f g a b = b k refl
+
+-- Kept: with the bound of the records still to come, at a course and an offset, and with reports done
+module _ (s : List ℕ) (P : Told → Type 0) (Kept : ℕ → Course → ℕ → List ℕ → Type 0)
+    (is-stopped : (k n at : ℕ) → (k ≡ 0 → ⊥) → P (stopped k n at))
+    (is-accepted : (more : ℕ) (x : Course) (at : ℕ) (done : List ℕ) → Kept (suc more) x at done → x .phase ≡ 2 → length s ≤ at
+    → P (accepted x done))
+    (is-passed : (more : ℕ) (x : Course) (at len : ℕ) (done : List ℕ) (y : Step) → Kept (suc more) x at done → Stepped s x at len y
+    → y .refusal ≡ 0 → Kept more (y .course) (at + len) (done ++ y .report)) where
+  pub told-from : (more : ℕ) (x : Course) (at n : ℕ) (done : List ℕ) → Kept more x at done → P (tellFrom more s x at n done)
+  unfolding tellFrom recordAt
+  told-from zero x at n done kept = is-stopped 14 n at (λ e. omega arith)
+  told-from (suc more) x at n done kept =
+      cond-case P (eqb (x .phase) 2) _ _
+      (λ closed. cond-case P (ltb at (length s)) (stopped 14 n at) (accepted x done)
+      (λ l. is-stopped 14 n at (λ e. omega arith))
+      (λ l. is-accepted more x at done kept (eqb-true _ 2 closed) (ltb-false _ _ l)))
+      (λ running. read-case P (recordAt s at) _ _
+      (λ r len q. let y = stepOf x r in
+      cond-case P (eqb (y .refusal) 0) (tellFrom more s (y .course) (at + len) (n + 1) (done ++ y .report)) _
+      (λ e. told-from more (y .course) (at + len) (n + 1) (done ++ y .report)
+      (is-passed more x at len done y kept (record { running = eqb-false _ 2 running; item = r; read = q; did = refl }) (eqb-true _ 0 e)))
+      (λ e. is-stopped (y .refusal) n at (eqb-false _ 0 e)))
+      (λ k e. is-stopped k n at (at-unread (ltb at (length s)) s at k e)))
 
 -- ---- the reports only grow
 Grown : ℕ → Told → Type 0
 Grown l t = (w c e b : ℕ) → t .outcome ≡ Accepted w c e b → l ≤ b
 
-grown-cond : (l : ℕ) (b : Bool) (t u : Told) → Grown l t → Grown l u → Grown l (cond b t u)
-grown-cond l true t u p q = p
-grown-cond l false t u p q = q
-
-grown-read : (l : ℕ) (q : Read) (f : Record → ℕ → Told) (g : ℕ → Told) → ((r : Record) (len : ℕ) → Grown l (f r len)) → ((k : ℕ) → Grown l (g k)) → Grown l (onRead q f g)
-unfolding onRead
-grown-read l (Got r len) f g p q = p r len
-grown-read l (Unread k) f g p q = q k
-
-grown-stopped : (l k n at : ℕ) → Grown l (stopped k n at)
+grown-stopped : (l k n at : ℕ) → (k ≡ 0 → ⊥) → Grown l (stopped k n at)
 unfolding Grown
-grown-stopped l k n at w c e b h = let never : _≡_ {A = ℕ} 0 1 = cc in absurd (omega arith)
+grown-stopped l k n at apart w c e b h = let never : _≡_ {A = ℕ} 0 1 = cc in absurd (omega arith)
 
-grown-accepted : (x : Course) (done : List ℕ) → Grown (length done) (accepted x done)
+grown-accepted : (l : ℕ) (x : Course) (done : List ℕ) → l ≤ length done → Grown l (accepted x done)
 unfolding Grown
-grown-accepted x done w c e b h = let all-of-them : length done ≡ b = cc in omega arith
-
-grown-append : (a b : List ℕ) (t : Told) → Grown (length (a ++ b)) t → Grown (length a) t
-unfolding Grown
-grown-append a b t p w c e k h = omega (arith, p w c e k h, length-append a b)
+grown-accepted l x done m w c e b h = let all-of-them : length done ≡ b = cc in omega arith
 
 grown-tell : (f : ℕ) (s : List ℕ) (x : Course) (at n : ℕ) (done : List ℕ) → Grown (length done) (tellFrom f s x at n done)
-unfolding tellFrom
-grown-tell zero s x at n done = grown-stopped _ _ _ _
-grown-tell (suc f) s x at n done =
-    grown-cond _ (eqb (x .phase) 2) _ _
-    (grown-cond _ (ltb at (length s)) _ _ (grown-stopped _ 14 n at) (grown-accepted x done))
-    (grown-cond _ (ltb at (length s)) _ _
-    (grown-read _ (readOf false (drop at s)) _ _
-    (λ r len.
-    let y = stepOf x r in
-    grown-cond _ (eqb (y .refusal) 0) _ _
-    (grown-append done (reportOf y) _ (grown-tell f s (y .course) (at + len) (n + 1) (done ++ reportOf y)))
-    (grown-stopped _ (y .refusal) n at))
-    (λ k. grown-stopped _ k n at))
-    (grown-stopped _ 14 n at))
+grown-tell f s x at n done =
+    told-from s (Grown (length done)) (λ more y to l. length done ≤ length l)
+    (grown-stopped (length done))
+    (λ more y to l kept closed end. grown-accepted (length done) y l kept)
+    (λ more y to len l z kept p e. omega (arith, kept, length-append l (z .report)))
+    f x at n done (omega arith)
 
 -- so the reports done at any record fit where those of the whole do
 pub done-fits : (f : ℕ) (s : List ℕ) (x : Course) (at n : ℕ) (done : List ℕ) (room : ℕ) → tellFrom f s x at n done ≡ tell s → Fits s room → length done ≤ room

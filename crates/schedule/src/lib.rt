@@ -1,29 +1,18 @@
 // Running a schedule over lent bytes: the whole is judged first, then the numbers dealt are written to the lent output.
 ghost use mathlib.Core.Path.{_≡_};
-ghost use Rattle.records.specs.declared.Record.the-variants.{Open, Enter, Turn as TurnRecord, Close};
-ghost use Rattle.schedule.specs.Step.{atStart, silent, stepOf, reportIf};
-ghost use Rattle.schedule.specs.Pass.{numberOf, Underway, RoomFor, Noted, Passable, PassIs};
+ghost use mathlib.Core.Bool.{cond};
+ghost use lib.Dec.{eqb};
+ghost use Rattle.board.specs.Answer.{valuesOf};
+ghost use Rattle.records.specs.Writing.{bytesOf};
+ghost use Rattle.schedule.specs.declared.Outcome.the-variants.{Accepted, Refused};
+ghost use Rattle.schedule.specs.Step.{reportOf, closeNo};
+ghost use Rattle.schedule.specs.Schedule.{recordAt};
+ghost use Rattle.schedule.specs.Pass.{numberOf, placeNo, RoomFor, Noted, Passable, PassIs};
 ghost use Rattle.schedule.specs.Whole.{Ran};
 use board::Turn;
 use records::Read;
 use records::Record;
 use run::Run;
-
-// Where a schedule stands: phase 0 before the open, 1 after it, 2 after the close; and the run.
-pub struct Course {
-    pub phase: u8,
-    pub run: Run,
-}
-
-// What a record gives: the refusal number, the number dealt where one is, and the course after it.
-pub struct Step {
-    pub refusal: u8,
-    pub dealt: bool,
-    pub token: u16,
-    pub exit: u16,
-    pub number: u32,
-    pub course: Course,
-}
 
 pub enum Outcome {
     // Width, construction, entries, and the bytes of the reports.
@@ -41,148 +30,125 @@ pub enum Outcome {
     },
 }
 
-// Before the open a refused opening's run stands in.
-fn at_start() -> Course
-    ensures { λ r. ⌜ r ≡ atStart ⌝ }
+// ---- a record
+// 14 out of the phase that a record belongs to, or 0.
+fn out_of_phase(phase: u8, own: u8) -> u8
+    ensures { λ r. ⌜ r ≡ cond (eqb phase own) 0 14 ⌝ }
 {
-    let opened = Run::open(0, 0);
-    let run = opened.run;
-    Course { phase: 0, run }
+    if phase == own { 0 } else { 14 }
 }
 
-fn silent_step(refusal: u8, course: Course) -> Step
-    ensures { λ r. ⌜ r ≡ silent refusal course ⌝ }
-{
-    Step {
-        refusal,
-        dealt: false,
-        token: 0,
-        exit: 0,
-        number: 0,
-        course,
-    }
-}
-
-// ---- a function for each kind of record
-fn step_open(course: Course, width: u16, construction: u16) -> Step
-    ensures { λ r. ⌜ r ≡ stepOf course (Open width construction) ⌝ }
-{
-    if course.phase != 0 {
-        return silent_step(14, course);
-    }
-    let opened = Run::open(width, construction);
-    let refusal = opened.refusal;
-    if refusal != 0 {
-        return silent_step(refusal, course);
-    }
-    let run = opened.run;
-    silent_step(0, Course { phase: 1, run })
-}
-
-fn step_enter(course: Course, token: u16, wire: u16) -> Step
-    requires { ⌜ Underway course ⌝ }
-    ensures { λ r. ⌜ r ≡ stepOf course (Enter token wire) ⌝ }
-{
-    if course.phase != 1 {
-        return silent_step(14, course);
-    }
-    let run = course.run;
-    let entered = run.enter_sound(token, wire);
-    let refusal = entered.refusal;
-    if refusal != 0 {
-        return silent_step(refusal, course);
-    }
-    let run = entered.run;
-    silent_step(0, Course { phase: 1, run })
-}
-
-fn step_turn(course: Course, token: u16) -> Step
-    requires { ⌜ Underway course ⌝ }
-    ensures { λ r. ⌜ r ≡ stepOf course (TurnRecord token) ⌝ }
-{
-    if course.phase != 1 {
-        return silent_step(14, course);
-    }
-    let run = course.run;
-    let turned = run.turn_sound(token);
-    let answer = turned.answer;
-    let run = turned.run;
-    let after = Course { phase: 1, run };
-    match answer {
-        Turn::Passed { level: _, wire: _ } => Step {
-            refusal: 0,
-            dealt: false,
-            token,
-            exit: 0,
-            number: 0,
-            course: after,
-        },
-        Turn::Dealt { exit, number } => Step {
-            refusal: 0,
-            dealt: true,
-            token,
-            exit,
-            number,
-            course: after,
-        },
-        Turn::Refused(refusal) => silent_step(refusal, course),
-    }
-}
-
-fn step_close(course: Course, entered: u32) -> Step
-    ensures { λ r. ⌜ r ≡ stepOf course (Close entered) ⌝ }
-{
-    if course.phase != 1 {
-        return silent_step(14, course);
-    }
-    let run = course.run;
-    let board = run.board;
-    let places = board.places;
-    if board::inside_sum(places) != 0 {
-        return silent_step(15, course);
-    }
-    if board.entered != entered {
-        return silent_step(15, course);
-    }
-    silent_step(0, Course { phase: 2, run })
-}
-
-// What one record does.
-fn step_of(course: Course, item: Record) -> Step
-    requires { ⌜ Underway course ⌝ }
-    ensures { λ r. ⌜ r ≡ stepOf course item ⌝ }
+// Why a record may not stand in a phase: 13 for a report, 14 for any other out of its phase, or 0.
+fn misplaced(phase: u8, item: Record) -> u8
+    ensures { λ r. ⌜ r ≡ placeNo phase item ⌝ }
 {
     match item {
         Record::Open {
-            width,
-            construction,
-        } => step_open(course, width, construction),
-        Record::Enter { token, wire } => step_enter(course, token, wire),
-        Record::Turn { token } => step_turn(course, token),
-        Record::Close { entered } => step_close(course, entered),
+            width: _,
+            construction: _,
+        } => out_of_phase(phase, 0),
+        Record::Enter { token: _, wire: _ } => out_of_phase(phase, 1),
+        Record::Turn { token: _ } => out_of_phase(phase, 1),
+        Record::Close { entered: _ } => out_of_phase(phase, 1),
         Record::Number {
             token: _,
             wire: _,
             number: _,
-        } => silent_step(13, course),
+        } => 13,
+    }
+}
+
+// Why a close may not be: 15 while a token is inside or where the count is not the entries, or 0.
+fn close_refusal(run: Run, entered: u32) -> u8
+    ensures { λ r. ⌜ r ≡ closeNo run entered ⌝ }
+{
+    let board = run.board;
+    let places = board.places;
+    if board::inside_sum(places) != 0 {
+        return 15;
+    }
+    if board.entered != entered {
+        return 15;
+    }
+    0
+}
+
+// The number of a turn's answer, 0 where the turn was carried out.
+fn refusal_of(answer: Turn) -> u8
+    ensures { λ r. ⌜ r ≡ valuesOf answer .refusal ⌝ }
+{
+    match answer {
+        Turn::Passed { level: _, wire: _ } => 0,
+        Turn::Dealt { exit: _, number: _ } => 0,
+        Turn::Refused(number) => number,
+    }
+}
+
+// ---- reports
+// Writes a report behind those that fill the output so far, where reports are to be written; gives how far they go then.
+fn put_report(out: &mut [u8], filled: usize, writing: bool, report: Record) -> usize
+    requires { ⌜ RoomFor (bytesOf report) writing filled (now out) ⌝ }
+    ensures { λ r. ⌜ Noted (bytesOf report) writing filled (now (out .entry)) r (now (out .exit)) ⌝ }
+{
+    let next = filled + records::size_of(report);
+    if !writing {
+        return next;
+    }
+    records::put_record(out, filled, report);
+    next
+}
+
+// The same of the report of a turn's answer, where a number was dealt.
+fn note(out: &mut [u8], filled: usize, writing: bool, token: u16, answer: Turn) -> usize
+    requires { ⌜ RoomFor (reportOf token answer) writing filled (now out) ⌝ }
+    ensures { λ r. ⌜ Noted (reportOf token answer) writing filled (now (out .entry)) r (now (out .exit)) ⌝ }
+{
+    match answer {
+        Turn::Passed { level: _, wire: _ } => filled,
+        Turn::Dealt { exit, number } => {
+            let report = Record::Number {
+                token,
+                wire: exit,
+                number,
+            };
+            put_report(out, filled, writing, report)
+        }
+        Turn::Refused(_) => filled,
+    }
+}
+
+// ---- outcomes
+fn refused(number: u8, record: usize, offset: usize) -> Outcome
+    ensures { λ r. ⌜ r ≡ Refused number «record» offset ⌝ }
+{
+    Outcome::Refused {
+        number,
+        record,
+        offset,
+    }
+}
+
+fn accepted(run: Run, bytes: usize) -> Outcome
+    ensures { λ r. ⌜ r ≡ Accepted (run .width) (run .construction) (run .board .entered) bytes ⌝ }
+{
+    let board = run.board;
+    Outcome::Accepted {
+        width: run.width,
+        construction: run.construction,
+        entries: board.entered,
+        bytes,
     }
 }
 
 // ---- one pass
-// Writes the report of a number dealt, if one was dealt and reports are to be written; gives how far the reports go.
-fn note(out: &mut [u8], filled: usize, writing: bool, dealt: bool, item: Record) -> usize
-    requires { ⌜ RoomFor (reportIf dealt item) writing filled (now out) ⌝ }
-    ensures { λ r. ⌜ Noted (reportIf dealt item) writing filled (now (out .entry)) r (now (out .exit)) ⌝ }
+// The record at an offset; behind the last byte there is none: 14.
+fn read_at(bytes: &[u8], at: usize) -> Read
+    ensures { λ r. ⌜ r ≡ recordAt (now (bytes .entry)) at ⌝ }
 {
-    if !dealt {
-        return filled;
+    if bytes.len() <= at {
+        return Read::Refused(14);
     }
-    let next = filled + records::size_of(item);
-    if !writing {
-        return next;
-    }
-    records::put_record(out, filled, item);
-    next
+    records::read_in_schedule(&bytes[at..])
 }
 
 // The number of a read, 0 where a record was read.
@@ -200,62 +166,59 @@ fn pass(bytes: &[u8], out: &mut [u8], writing: bool) -> Outcome
     requires { ⌜ Passable (now bytes) (now out) writing ⌝ }
     ensures { λ r. ⌜ PassIs (now (bytes .entry)) (now (out .entry)) writing r (now (out .exit)) ⌝ }
 {
-    let mut course = at_start();
+    let mut phase: u8 = 0;
+    let opened = Run::open(0, 0);
+    let mut run = opened.run;
     let mut at: usize = 0;
     let mut record: usize = 0;
     let mut filled: usize = 0;
-    while course.phase != 2 {
-        if bytes.len() <= at {
-            return Outcome::Refused {
-                number: 14,
-                record,
-                offset: at,
-            };
-        }
-        let read = records::read_in_schedule(&bytes[at..]);
+    while phase != 2 {
+        let read = read_at(bytes, at);
         let Read::Got(item, len) = read else {
-            let number = number_of(read);
-            return Outcome::Refused {
-                number,
-                record,
-                offset: at,
-            };
+            return refused(number_of(read), record, at);
         };
-        let done = step_of(course, item);
-        let number = done.refusal;
+        let mut number = misplaced(phase, item);
         if number != 0 {
-            return Outcome::Refused {
-                number,
-                record,
-                offset: at,
-            };
+            return refused(number, record, at);
         }
-        let report = Record::Number {
-            token: done.token,
-            wire: done.exit,
-            number: done.number,
-        };
-        let dealt = done.dealt;
-        filled = note(out, filled, writing, dealt, report);
-        course = done.course;
+        match item {
+            Record::Open {
+                width,
+                construction,
+            } => {
+                let opened = Run::open(width, construction);
+                number = opened.refusal;
+                run = opened.run;
+                phase = 1;
+            }
+            Record::Enter { token, wire } => {
+                let entered = run.enter_sound(token, wire);
+                number = entered.refusal;
+                run = entered.run;
+            }
+            Record::Turn { token } => {
+                let turned = run.turn_sound(token);
+                let answer = turned.answer;
+                number = refusal_of(answer);
+                filled = note(out, filled, writing, token, answer);
+                run = turned.run;
+            }
+            Record::Close { entered } => {
+                number = close_refusal(run, entered);
+                phase = 2;
+            }
+            _ => {}
+        }
+        if number != 0 {
+            return refused(number, record, at);
+        }
         at = at + len;
         record = record + 1;
     }
     if at < bytes.len() {
-        return Outcome::Refused {
-            number: 14,
-            record,
-            offset: at,
-        };
+        return refused(14, record, at);
     }
-    let run = course.run;
-    let board = run.board;
-    Outcome::Accepted {
-        width: run.width,
-        construction: run.construction,
-        entries: board.entered,
-        bytes: filled,
-    }
+    accepted(run, filled)
 }
 
 // Runs a schedule: judges it whole, and then writes its reports.
@@ -263,11 +226,7 @@ pub fn run(bytes: &[u8], out: &mut [u8]) -> Outcome
     ensures { λ r. ⌜ Ran (now (bytes .entry)) (now (out .entry)) r (now (out .exit)) ⌝ }
 {
     if 65536 < bytes.len() {
-        return Outcome::Refused {
-            number: 16,
-            record: 0,
-            offset: 0,
-        };
+        return refused(16, 0, 0);
     }
     let judged = pass(bytes, out, false);
     let Outcome::Accepted {
@@ -280,11 +239,7 @@ pub fn run(bytes: &[u8], out: &mut [u8]) -> Outcome
         return judged;
     };
     if out.len() < filled {
-        return Outcome::Refused {
-            number: 17,
-            record: 0,
-            offset: 0,
-        };
+        return refused(17, 0, 0);
     }
     pass(bytes, out, true)
 }

@@ -7,8 +7,11 @@ use borrow.Author.Needs.{needs}
 use Rattle.schedule.proofs.run.Statement.{statement}
 use Rattle.schedule.proofs.run.Tie as tie
 
+refused-requires : tie.Need-refused-requires
+refused-requires c κs = search needs
+
 returns : tie.Need-returns
-returns c = ran-long (c .if1 .taken)
+returns c = rw (c .refused .ensures) (ran-long (c .before .if1 .taken))
 
 pass-requires : tie.Need-pass-requires
 pass-requires c κs = record { short = c .before .if1 .left; fits = λ e. let never : _≡_ {A = ℕ} 0 1 = cc in absurd (omega arith) }
@@ -27,13 +30,17 @@ returns-2 c =
     let at-pass = c .before .before .before .before in
     ran-fault (at-pass .before .before .if1 .left) (at-pass .pass .ensures) (c .enum-told .given .1)
 
+refused-requires-2 : tie.Need-refused-requires-2
+refused-requires-2 c κs = search needs
+
 same-length-2 : tie.Need-same-length-2
 same-length-2 c = search needs
 
 returns-3 : tie.Need-returns-3
 returns-3 c =
-    let at-pass = c .before .before .before .before .before .before in
-    ran-narrow (at-pass .before .before .if1 .left) (at-pass .pass .ensures) (c .before .before .judged .given .1) (c .if2 .taken)
+    let at-pass = c .before .before .before .before .before .before .before in
+    rw (c .refused2 .ensures)
+    (ran-narrow (at-pass .before .before .if1 .left) (at-pass .pass .ensures) (c .before .before .before .judged .given .1) (c .before .if2 .taken))
 
 pass-requires-2 : tie.Need-pass-requires-2
 pass-requires-2 c κs =
@@ -56,12 +63,14 @@ pub run-spec : {M : Type 1} → statement M
 run-spec =
     tie.close
     (tie.spec
+    refused-requires
     returns
     pass-requires
     enum-known-judged
     enum-told
     same-length
     returns-2
+    refused-requires-2
     same-length-2
     returns-3
     pass-requires-2
