@@ -6,9 +6,7 @@ use mathlib.Core.List.{[], _∷_}
 use lib.Dec.{eqb, ltb}
 use lib.ListN.{set}
 use Rattle.order.specs.Order.{_⟶_, firstOf}
-use Rattle.board.specs.declared.Place.{Place}
 use Rattle.board.specs.declared.Board.{Board}
-use Rattle.board.specs.declared.Turn.{Turn}
 use Rattle.board.specs.declared.Turn.the-variants.{Passed, Dealt, Refused}
 use Rattle.board.specs.declared.Moved.{Moved}
 use Rattle.board.specs.Board.{freePlace, placeAt, countAt, cellAt, downAt}

@@ -1,8 +1,6 @@
 -- Each public contract allows one answer: an equation does, and each record of a contract is made of equations. Assumes nothing.
-use Prim.Native.Nat.{ℕ}
 use mathlib.Core.Path.{_≡_, sym, _∙_}
-use mathlib.Core.List.{List}
-use Rattle.facts.specs.Answers.{One, OneWith, OneAnswer}
+use Rattle.facts.specs.Answers.{OneAnswer}
 
 same : {A : Type 0} {a r s : A} → r ≡ a → s ≡ a → r ≡ s
 same e f = e ∙ sym f

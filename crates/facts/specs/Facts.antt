@@ -5,15 +5,13 @@ use Prim.Native.Nat.{ℕ, _+_, _<_}
 use Rattle.network.specs.Widths.{depthOf}
 use Rattle.network.specs.Rows.{rowOf, sheetOf}
 use Rattle.rest.specs.Share.{share}
-use Rattle.run.specs.declared.Opened.{Opened}
-use Rattle.run.specs.declared.Entered.{Entered}
 use Rattle.run.specs.Run.{openOf, enterOf}
 use Rattle.schedule.specs.declared.Outcome.the-variants.{Refused}
 use Rattle.schedule.specs.Whole.{runOf}
 use Rattle.schedule.specs.Case.{caseBytes}
 use Rattle.listing_text.specs.Text.{letters}
 use Rattle.listing_text.specs.Listing.{listingOf}
-use Rattle.promise.specs.History.{Call, enter, turn, After, Deal, history}
+use Rattle.promise.specs.History.{Call, enter, turn, Deal, history}
 
 -- one request at BITONIC[4], whose depth is 3: it enters and takes all its turns
 abbrev pub request : ℕ → ℕ → List Call

@@ -2,14 +2,12 @@
 -- demand 3 says. In order: at the end of a schedule; from a record on; the output. Assumes nothing.
 use Prim.Native.Nat.{ℕ, suc, _+_, _*_, _≤_}
 use mathlib.Core.Path.{_≡_, refl, sym, ap, _∙_}
-use mathlib.Core.Bool.{Bool, true, false, cond}
 use mathlib.Core.List.{List, [], _++_, append-assoc, append-nil}
 use native.Mathlib.Decide.{decLt}
 use native.Mathlib.Omega.{arith}
-use lib.Dec.{ltb, leb, eqb}
+use lib.Dec.{ltb, leb}
 use lib.ListN.{length, take, drop}
 use lib.Seq.{take-at}
-use borrow.Author.Tests.{eqb-true, eqb-false, ltb-false}
 use Rattle.order.specs.Order.{firstOf}
 use Rattle.network.specs.Widths.{widthOk, constructionOk, openNo}
 use Rattle.board.specs.Sound.{insideSum}

@@ -1,16 +1,15 @@
 -- Laws of the feeds: a wire of 2h goes to a wire below h, and what is fed by rows below h lies below 2h.
 -- Assumes nothing.
-use mathlib.Core.Path.{_≡_, refl, sym, ap, _∙_, subst}
+use mathlib.Core.Path.{_≡_, refl, ap}
 use mathlib.Core.Bool.{Bool, true, false, cond}
 use mathlib.Core.Logic.{_⊎_, inl, inr, ⊎-elim}
-use Prim.Native.Nat.{ℕ, zero, suc, _+_, _-_, _*_, _/_, _%_, _<_, _≤_}
+use Prim.Native.Nat.{ℕ, _+_, _-_, _*_, _<_, _≤_}
 use native.Mathlib.Omega.{arith}
-use lib.Dec.{ltb, eqb}
+use lib.Dec.{ltb}
 use borrow.Author.Tests.{lt-ltb, le-ltb, ltb-true, ltb-false}
 use Rattle.network.specs.declared.Feed.{Feed}
 use Rattle.network.specs.declared.Feed.the-variants.{Merger, Block, Beside}
-use Rattle.network.specs.declared.Fed.{Fed}
-use Rattle.network.specs.Wiring.{fedOf, through, feedAt, lastAt}
+use Rattle.network.specs.Wiring.{fedOf, feedAt, lastAt}
 
 by-test : (a b : ℕ) (t : Bool) → ltb a b ≡ t → (a < b) ⊎ (b ≤ a)
 by-test a b true e = inl (ltb-true a b e)

@@ -1,18 +1,17 @@
 -- Each row holds every number below the width once: of each layer of each construction, at every width.
 -- Assumes nothing.
-use mathlib.Core.Path.{_≡_, refl, sym, ap, _∙_, subst}
-use mathlib.Core.Bool.{Bool, true, false, not, cond}
+use mathlib.Core.Path.{_≡_, refl, sym, _∙_, subst}
+use mathlib.Core.Bool.{Bool, true, false, cond}
 use mathlib.Core.Logic.{_⊎_, inl, inr, ⊎-elim}
 use Prim.Native.Nat.{ℕ, zero, suc, _+_, _-_, _*_, _/_, _%_, _^_, _<_, _≤_}
 use native.Mathlib.Nat.{two-pow-succ}
 use native.Mathlib.Omega.{arith}
 use lib.Dec.{ltb, eqb}
-use lib.ListN.{getD}
 use borrow.Author.Tests.{lt-ltb, le-ltb, eq-eqb, ne-eqb, eqb-true, eqb-false}
 use Rattle.network.specs.declared.Feed.{Feed}
 use Rattle.network.specs.declared.Feed.the-variants.{Merger, Block, Beside}
 use Rattle.network.specs.declared.Fed.{Fed}
-use Rattle.network.specs.Wiring.{fedOf, through, feedAt, lastAt, part, bitonic, periodic, place}
+use Rattle.network.specs.Wiring.{fedOf, feedAt, lastAt, part, bitonic, periodic, place}
 use Rattle.network.specs.Widths.{depthB}
 use Rattle.network.proofs.Feeds.{lt-or-le, fed-below, feed-below, last-below}
 

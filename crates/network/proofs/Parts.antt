@@ -8,15 +8,14 @@ use native.Mathlib.Nat.{two-pow-succ}
 use native.Mathlib.Omega.{arith}
 use lib.Pow.{pow-mono}
 use lib.Dec.{ltb, eqb}
-use lib.ListN.{getD, replicate}
-use mathlib.Core.List.{_++_}
+use lib.ListN.{getD}
 use borrow.Author.Tests.{lt-ltb, le-ltb, eq-eqb, ne-eqb}
 use Rattle.network.specs.declared.Feed.{Feed}
 use Rattle.network.specs.declared.Feed.the-variants.{Merger, Block, Beside}
 use Rattle.network.specs.Widths.{depth, depthB, depthP}
 use Rattle.network.specs.Wiring.{feedAt, lastAt, part, bitonic, periodic, place}
-use Rattle.network.specs.Rows.{tabulate, arrayOf}
-use Rattle.network.proofs.Arrays.{RowIs, array-is, tabulate-ext}
+use Rattle.network.specs.Rows.{arrayOf}
+use Rattle.network.proofs.Arrays.{array-is, tabulate-ext}
 use Rattle.network.proofs.Feeds.{feed-below, feed-same, last-below}
 use Rattle.network.proofs.Widths.{depthB-more}
 

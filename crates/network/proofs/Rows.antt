@@ -1,21 +1,19 @@
 -- Laws of rows and sheets as callers read them: each row holds every number below the width once, two wires feed each cell, and
 -- the bytes of a row and of a sheet. Assumes nothing.
-use mathlib.Core.Path.{_≡_, refl, sym, ap, _∙_, subst}
-use mathlib.Core.Bool.{cond}
-use mathlib.Core.List.{List, [], _++_, append-assoc}
-use Prim.Native.Nat.{ℕ, zero, suc, _+_, _-_, _*_, _/_, _^_, _<_, _≤_}
+use mathlib.Core.Path.{_≡_, sym, ap, _∙_, subst}
+use mathlib.Core.List.{List, _++_, append-assoc}
+use Prim.Native.Nat.{ℕ, zero, suc, _+_, _-_, _*_, _/_, _<_, _≤_}
 use native.Mathlib.Nat.{suc-mul, zero-mul, mul-le-mul}
 use native.Mathlib.Numerals.{add-one}
 use native.Mathlib.Omega.{arith}
-use lib.Dec.{ltb}
 use lib.ListN.{length, getD, take, drop, length-append}
 use lib.Seq.{take-at, drop-at, drop-drop}
 use borrow.Author.Tests.{lt-ltb, le-ltb}
 use Rattle.network.specs.Widths.{levels, depthOf}
 use Rattle.network.specs.Wiring.{place}
-use Rattle.network.specs.Rows.{tabulate, rows, placeOf, rowOf, arrayOf, rowArray, sheetOf}
-use Rattle.network.proofs.Arrays.{length-tabulate, getD-tabulate, array-is, take-array}
-use Rattle.network.proofs.Widths.{Layered, layered}
+use Rattle.network.specs.Rows.{tabulate, rows, placeOf, arrayOf, rowArray, sheetOf}
+use Rattle.network.proofs.Arrays.{length-tabulate, array-is, take-array}
+use Rattle.network.proofs.Widths.{layered}
 use Rattle.network.proofs.Once.{Once, once}
 
 -- ---- at a layer of a network

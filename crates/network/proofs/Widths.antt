@@ -3,13 +3,12 @@
 use mathlib.Core.Path.{_≡_, refl, sym, ap, _∙_}
 use mathlib.Core.Bool.{Bool, true, false, not, cond, _||_}
 use mathlib.Core.List.{List, [], _∷_}
-use mathlib.Core.Logic.{⊎-elim}
 use Prim.Native.Nat.{ℕ, zero, suc, _+_, _*_, _/_, _^_, _<_, _≤_}
 use native.Mathlib.Nat.{mul-le-mul, two-pow-succ, suc-mul, mul-add, mul-one}
 use native.Mathlib.Omega.{arith}
 use lib.Pow.{pow-mono}
 use lib.Dec.{eqb}
-use borrow.Author.Tests.{eqb-true, eqb-false, not-false}
+use borrow.Author.Tests.{eqb-true, not-false}
 use Rattle.order.specs.Order.{Refusal, _⟶_, firstOf}
 use Rattle.order.proofs.Order.{cleared}
 use Rattle.network.specs.Widths.{widthOk, constructionOk, openNo, levels, depthB, depthP, depth, depthOf}

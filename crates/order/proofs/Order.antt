@@ -1,6 +1,6 @@
 -- Laws of `firstOf`. In order: a number is given exactly when its condition holds and none before it does; the set that
 -- `search` closes a refusal with; what is known where nothing is refused. Assumes nothing.
-use Prim.Native.Nat.{ℕ, suc, _<_}
+use Prim.Native.Nat.{ℕ, suc}
 use mathlib.Core.List.{List, [], _∷_}
 use mathlib.Core.Bool.{Bool, true, false, not, cond}
 use mathlib.Core.Path.{_≡_, refl}

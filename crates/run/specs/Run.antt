@@ -4,10 +4,7 @@ use mathlib.Core.Bool.{Bool, cond, _&&_}
 use lib.Dec.{eqb}
 use Rattle.network.specs.Widths.{widthOk, constructionOk, openNo, depthOf}
 use Rattle.network.specs.Rows.{placeOf}
-use Rattle.board.specs.declared.Place.{Place}
 use Rattle.board.specs.declared.Board.{Board}
-use Rattle.board.specs.declared.Boarded.{Boarded}
-use Rattle.board.specs.declared.Moved.{Moved}
 use Rattle.board.specs.Board.{freshBoard, placeAt}
 use Rattle.board.specs.Sound.{soundBoard}
 use Rattle.board.specs.Enter.{enterWith}

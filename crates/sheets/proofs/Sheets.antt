@@ -1,20 +1,19 @@
 -- Laws of the sheet and the view: what holds where nothing is refused, that a view is empty exactly when it is refused, and a copy
 -- from the front. Assumes nothing.
-use mathlib.Core.Path.{_≡_, refl, sym, ap, _∙_}
-use mathlib.Core.Bool.{true, cond}
+use mathlib.Core.Path.{_≡_, sym, ap, _∙_}
+use mathlib.Core.Bool.{true}
 use mathlib.Core.List.{List, []}
 use mathlib.Core.Logic.{_↔_}
 use Prim.Native.Nat.{ℕ, _+_, _-_, _*_, _<_, _≤_}
 use native.Mathlib.Nat.{le-trans, mul-le-mul}
 use native.Mathlib.Omega.{arith}
-use lib.Dec.{leb, ltb, eqb}
 use lib.ListN.{length, getD, set, take, drop, length-drop}
 use lib.Seq.{getD-set-same, getD-set-other, ext-getD, getD-take, length-take-le}
 use borrow.Author.Count.{below-more}
 use borrow.Author.Tests.{ltb-false, leb-false, not-false, eq-eqb, ne-eqb}
 use Rattle.order.proofs.Order.{cleared}
-use Rattle.network.specs.Widths.{widthOk, constructionOk, depthOf}
-use Rattle.network.proofs.Widths.{depthOf-small, width-small, width-some}
+use Rattle.network.specs.Widths.{widthOk, depthOf}
+use Rattle.network.proofs.Widths.{width-some}
 use Rattle.network.proofs.Rows.{row-end}
 use Rattle.sheets.specs.Sheets.{sheetLength, sheetNo, viewNo, ViewIs}
 

@@ -1,7 +1,7 @@
 -- The sheet and the view of one row (01, "Wiring" and the orders of refusal). Definitions only. Assumes nothing.
 use Prim.Native.Nat.{ℕ, _+_, _*_}
 use mathlib.Core.Path.{_≡_}
-use mathlib.Core.Bool.{Bool, not, cond}
+use mathlib.Core.Bool.{not, cond}
 use mathlib.Core.List.{List, [], _∷_}
 use lib.Dec.{leb, ltb, eqb}
 use lib.ListN.{length, take, drop}

@@ -1,7 +1,7 @@
 -- `bench::number_at` is safe and ends. Assumes nothing.
 use borrow.Author.Needs.{needs}
 use native.Mathlib.Omega.{arith}
-use Prim.Native.Nat.{_≤_, _<_, _-_}
+use Prim.Native.Nat.{_<_, _-_}
 use lib.ListN.{length}
 use Rattle.bench.proofs.number_at.Statement.{statement}
 use Rattle.bench.proofs.number_at.Tie as tie

@@ -1,9 +1,6 @@
 -- `bench::requests` is safe and ends. Assumes nothing.
 use borrow.Author.Needs.{needs}
-use native.Mathlib.Omega.{arith}
-use Prim.Native.Nat.{_≤_, _<_, _-_}
-use lib.ListN.{length}
-use mathlib.Core.Path.{_≡_}
+use Prim.Native.Nat.{_≤_, _-_}
 use Rattle.bench.proofs.requests.Statement.{statement}
 use Rattle.bench.proofs.requests.Tie as tie
 

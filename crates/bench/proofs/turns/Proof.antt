@@ -1,8 +1,6 @@
 -- `bench::turns` is safe and ends. Assumes nothing.
 use borrow.Author.Needs.{needs}
-use native.Mathlib.Omega.{arith}
-use Prim.Native.Nat.{_≤_, _<_, _-_}
-use lib.ListN.{length}
+use Prim.Native.Nat.{_≤_, _-_}
 use Rattle.bench.proofs.turns.Statement.{statement}
 use Rattle.bench.proofs.turns.Tie as tie
 

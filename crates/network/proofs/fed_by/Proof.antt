@@ -1,5 +1,4 @@
 -- `network::fed_by` meets its contract, arm by arm. Assumes nothing.
-use mathlib.Core.Path.{_∙_}
 use borrow.Author.Needs.{needs}
 use borrow.Author.Tests.{lt-ltb, le-ltb}
 use Rattle.network.proofs.fed_by.Statement.{statement}

@@ -1,6 +1,6 @@
 -- `network::feed_row` meets its contract: the array holds the row of the wires passed, and zeros after it. The measure is the
 -- wires left. Assumes nothing.
-use mathlib.Core.Path.{_≡_, refl, _∙_, subst}
+use mathlib.Core.Path.{_≡_, refl}
 use Prim.Native.Nat.{_≤_, _-_, _*_}
 use native.Mathlib.Omega.{arith}
 use lib.ListN.{length, getD, length-set}

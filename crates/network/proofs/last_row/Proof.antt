@@ -1,9 +1,9 @@
 -- `network::last_row` meets its contract: the array holds the row of the wires passed, and zeros after it. The measure is the
 -- wires left. Assumes nothing.
-use mathlib.Core.Path.{_≡_, refl, _∙_, subst}
+use mathlib.Core.Path.{_≡_, refl}
 use Prim.Native.Nat.{_≤_, _-_, _*_}
 use native.Mathlib.Omega.{arith}
-use lib.ListN.{length, getD, length-set}
+use lib.ListN.{length, length-set}
 use Rattle.network.specs.Wiring.{lastAt}
 use Rattle.network.proofs.Arrays.{RowIs, row-none, row-more, row-at}
 use Rattle.network.proofs.last_row.Statement.{statement}

@@ -1,5 +1,5 @@
 -- `network::row` meets its contract: a layer below the depth is one of a width w = 2^k. Assumes nothing.
-use mathlib.Core.Path.{_≡_, refl, sym, _∙_}
+use mathlib.Core.Path.{_∙_}
 use Prim.Native.Nat.{_<_, _≤_}
 use borrow.Author.Needs.{needs}
 use Rattle.network.specs.Widths.{depthOf}

@@ -1,6 +1,5 @@
 -- `print_sheets::show` is safe: the front of the buffer has as many bytes as were asked for. Assumes nothing.
 use mathlib.Core.Path.{sym}
-use native.Mathlib.Omega.{arith}
 use lib.Seq.{length-take-le}
 use borrow.Author.Needs.{needs}
 use Rattle.print_sheets.proofs.show.Statement.{statement}

@@ -3,7 +3,7 @@ use mathlib.Core.Path.{_≡_, sym, _∙_}
 use lib.ListN.{length}
 use denote.Ref.{now}
 use borrow.Author.Needs.{needs}
-use borrow.Author.Tests.{eq-eqb, ne-eqb}
+use borrow.Author.Tests.{ne-eqb}
 use Rattle.network.specs.Rows.{sheetOf}
 use Rattle.network.proofs.Rows.{length-sheet}
 use Rattle.sheets.specs.Sheets.{sheetNo, sheetLength}

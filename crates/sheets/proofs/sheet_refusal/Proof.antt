@@ -1,5 +1,5 @@
 -- `sheets::sheet_refusal` meets its contract: the opening's refusals, then the room. Assumes nothing.
-use mathlib.Core.Path.{_≡_, sym, _∙_}
+use mathlib.Core.Path.{sym, _∙_}
 use borrow.Author.Needs.{needs}
 use Rattle.order.proofs.Order.{order}
 use Rattle.network.proofs.Widths.{open-refused, open-allowed}
