@@ -17,7 +17,7 @@ use Rattle.schedule.specs.declared.Outcome.{Outcome}
 use Rattle.schedule.specs.declared.Outcome.the-variants.{Accepted, Refused}
 use Rattle.schedule.specs.Step.{Course, course, atStart, Step}
 use Rattle.schedule.specs.Schedule.{Told, stopped, accepted, tell}
-use Rattle.schedule.proofs.Told.{Stepped, told-from}
+use Rattle.schedule.proofs.Told.{Fault, Stepped, told-from}
 use Rattle.schedule.specs.Whole.{settle, runOf, afterRun, outputOf, Values, valuesOf}
 use Rattle.promise.specs.History.{Call, Deal, history, times}
 use Rattle.promise.specs.Promise.{Promise}
@@ -33,9 +33,9 @@ use Rattle.filed.proofs.Course.{Reported, Follows, follows-step}
 Files : List Call → Told → Type 0
 Files calls t = valuesOf (t .outcome) .refusal ≡ 0 → Filed calls (t .reports) (valuesOf (t .outcome))
 
-files-stopped : (calls : List Call) (k n at : ℕ) → (k ≡ 0 → ⊥) → Files calls (stopped k n at)
+files-stopped : (calls : List Call) (k n at : ℕ) → Fault k → Files calls (stopped k n at)
 unfolding Files valuesOf
-files-stopped calls k n at apart h = absurd (apart h)
+files-stopped calls k n at f h = absurd (f .some h)
 
 -- ---- at the end
 -- as many numbers are dealt as have entered, 12 bytes each

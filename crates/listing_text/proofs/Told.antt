@@ -1,18 +1,18 @@
 -- However a schedule ends: it is stopped or accepted, and where it is accepted the outcome's bytes are those of its reports.
 -- Assumes nothing.
-use Prim.Native.Nat.{ℕ, zero, suc, _+_, _≤_}
+use Prim.Native.Nat.{ℕ, suc, _≤_}
 use mathlib.Core.Path.{_≡_, refl, sym}
 use mathlib.Core.Bool.{Bool, true, false, cond}
-use mathlib.Core.List.{List, [], _++_}
+use mathlib.Core.List.{List, []}
 use native.Mathlib.Omega.{arith}
-use lib.ListN.{length, drop}
-use lib.Dec.{ltb, leb, eqb}
+use lib.ListN.{length}
+use lib.Dec.{ltb, leb}
 use borrow.Author.Tests.{leb-true, le-leb}
 use Rattle.schedule.specs.declared.Outcome.{Outcome}
 use Rattle.schedule.specs.declared.Outcome.the-variants.{Accepted, Refused}
 use Rattle.schedule.specs.Step.{Course, atStart}
 use Rattle.schedule.specs.Schedule.{Told, stopped, accepted, tell}
-use Rattle.schedule.proofs.Told.{told-from}
+use Rattle.schedule.proofs.Told.{Fault, told-from}
 use Rattle.schedule.specs.Whole.{settle, runOf}
 
 -- ---- the bytes that an outcome tells
@@ -23,9 +23,9 @@ pub record Bytes (t : Told) (room b : ℕ) : Type 0 where
 AllTold : Told → Type 0
 AllTold t = (w c e b : ℕ) → t .outcome ≡ Accepted w c e b → b ≡ length (t .reports)
 
-all-stopped : (k n at : ℕ) → (k ≡ 0 → ⊥) → AllTold (stopped k n at)
+all-stopped : (k n at : ℕ) → Fault k → AllTold (stopped k n at)
 unfolding AllTold
-all-stopped k n at apart w c e b h = let never : _≡_ {A = ℕ} 0 1 = cc in absurd (omega arith)
+all-stopped k n at f w c e b h = let never : _≡_ {A = ℕ} 0 1 = cc in absurd (omega arith)
 
 all-accepted : (x : Course) (done : List ℕ) → AllTold (accepted x done)
 unfolding AllTold

@@ -1,6 +1,6 @@
 -- Through a schedule the run stays sound from the open to the close, so that no record has to judge it. Assumes nothing.
 use mathlib.Core.Path.{_≡_}
-use mathlib.Core.Bool.{Bool, true, cond}
+use mathlib.Core.Bool.{true}
 use mathlib.Core.List.{[]}
 use Prim.Native.Nat.{ℕ}
 use native.Mathlib.Omega.{arith}
@@ -8,7 +8,7 @@ use lib.Dec.{eqb}
 use borrow.Author.Tests.{eqb-true, eq-eqb}
 use Rattle.board.proofs.Lists.{cond-case}
 use Rattle.run.specs.declared.Run.{Run}
-use Rattle.run.specs.Run.{fresh, openOf, enterOf, turnOf, sound}
+use Rattle.run.specs.Run.{fresh, openOf, sound}
 use Rattle.run.proofs.Keeps.{Shaped, shaped-fresh, shaped-enter, shaped-turn, fresh-sound, enter-keeps, turn-keeps}
 use Rattle.records.specs.declared.Record.{Record}
 use Rattle.records.specs.declared.Record.the-variants.{Open, Enter, Turn, Close, Number}

@@ -1,8 +1,8 @@
 -- What is told of a schedule from a record on. In order: a record that is read and carried out; the definition at each way out of
 -- the loop and at a record passed; what holds of every schedule, record by record; the reports. Assumes nothing.
-use mathlib.Core.Path.{_≡_, refl, sym, _∙_, ap}
+use mathlib.Core.Path.{_≡_, refl, _∙_, ap}
 use mathlib.Core.Bool.{Bool, true, false, cond}
-use mathlib.Core.List.{List, [], _++_}
+use mathlib.Core.List.{List, _++_}
 use Prim.Native.Nat.{ℕ, zero, suc, _+_, _-_, _<_, _≤_}
 use native.Mathlib.Omega.{arith}
 use lib.ListN.{length, take, drop, length-append, length-drop}
@@ -16,9 +16,10 @@ use Rattle.records.specs.declared.Read.the-variants.{Got, Refused as Unread}
 use Rattle.records.specs.Reading.{readNo, readOf}
 use Rattle.records.proofs.Reading.{read-length}
 use Rattle.schedule.specs.declared.Outcome.the-variants.{Accepted}
-use Rattle.schedule.specs.Step.{Course, atStart, Step, stepOf}
+use Rattle.schedule.specs.Step.{Course, Step, stepOf}
 use Rattle.schedule.specs.Schedule.{Told, stopped, accepted, recordAt, onRead, tellFrom, tell}
 use Rattle.schedule.specs.Pass.{Fits}
+use Rattle.schedule.proofs.Faults.{readNo-le, refusal-le}
 
 -- ---- the record at an offset
 -- the part of a slice from a place on, as the code lends it
@@ -30,14 +31,19 @@ pub record-none : (s : List ℕ) (at : ℕ) → length s ≤ at → Unread 14 �
 unfolding recordAt
 record-none s at h = rw (le-ltb _ _ h)
 
-read-apart : (b : Bool) (q : Record) (m n k : ℕ) → eqb n 0 ≡ b → cond b (Got q m) (Unread n) ≡ Unread k → k ≡ 0 → ⊥
-read-apart true q m n k e h f = let never : _≡_ {A = ℕ} 0 1 = cc in omega arith
-read-apart false q m n k e h f = let same : n ≡ k = cc in eqb-false n 0 e (same ∙ f)
+-- a number that a record is refused by
+pub record Fault (k : ℕ) : Type 0 where
+  pub some : k ≡ 0 → ⊥
+  pub most : k ≤ 15
+
+read-fault : (b : Bool) (q : Record) (m n k : ℕ) → n ≤ 15 → eqb n 0 ≡ b → cond b (Got q m) (Unread n) ≡ Unread k → Fault k
+read-fault true q m n k l e h = let never : _≡_ {A = ℕ} 0 1 = cc in absurd (omega arith)
+read-fault false q m n k l e h = let same : n ≡ k = cc in omega (arith, eqb-false n 0 e)
 
 -- a record that is there is read behind the offset; one that is not has a number
 pub record At (s : List ℕ) (at len : ℕ) : Type 0 where
   pub more : at < length s
-  pub onward : 1 ≤ len
+  pub onward : 6 ≤ len
   pub within : at + len ≤ length s
 
 at-got : (b : Bool) (s : List ℕ) (at : ℕ) (item : Record) (len : ℕ) → ltb at (length s) ≡ b
@@ -45,13 +51,13 @@ at-got : (b : Bool) (s : List ℕ) (at : ℕ) (item : Record) (len : ℕ) → lt
 at-got true s at item len e h =
     let more = ltb-true _ _ e in
     let l = read-length false (drop at s) item len h in
-    record { more = more; onward = omega (arith, l .least); within = omega (arith, l .within, length-drop at s) }
+    record { more = more; onward = l .least; within = omega (arith, l .within, length-drop at s) }
 at-got false s at item len e h = let never : _≡_ {A = ℕ} 0 1 = cc in absurd (omega arith)
 
-at-unread : (b : Bool) (s : List ℕ) (at k : ℕ) → cond b (readOf false (drop at s)) (Unread 14) ≡ Unread k → k ≡ 0 → ⊥
+at-unread : (b : Bool) (s : List ℕ) (at k : ℕ) → cond b (readOf false (drop at s)) (Unread 14) ≡ Unread k → Fault k
 unfolding readOf
-at-unread true s at k h z = read-apart _ _ _ (readNo false (drop at s)) k refl h z
-at-unread false s at k h z = let same : 14 ≡ k = cc in omega arith
+at-unread true s at k h = read-fault _ _ _ (readNo false (drop at s)) k (readNo-le false (drop at s)) refl h
+at-unread false s at k h = let same : 14 ≡ k = cc in omega arith
 
 -- ---- a record that is read and carried out: what is known of it, at the course x and the offset `at`
 pub record Stepped (s : List ℕ) (x : Course) (at len : ℕ) (y : Step) : Type 0 where
@@ -108,34 +114,34 @@ read-case P (Unread k) f g a b = b k refl
 
 -- Kept: with the bound of the records still to come, at a course and an offset, and with reports done
 module _ (s : List ℕ) (P : Told → Type 0) (Kept : ℕ → Course → ℕ → List ℕ → Type 0)
-    (is-stopped : (k n at : ℕ) → (k ≡ 0 → ⊥) → P (stopped k n at))
+    (is-stopped : (k n at : ℕ) → Fault k → P (stopped k n at))
     (is-accepted : (more : ℕ) (x : Course) (at : ℕ) (done : List ℕ) → Kept (suc more) x at done → x .phase ≡ 2 → length s ≤ at
     → P (accepted x done))
     (is-passed : (more : ℕ) (x : Course) (at len : ℕ) (done : List ℕ) (y : Step) → Kept (suc more) x at done → Stepped s x at len y
     → y .refusal ≡ 0 → Kept more (y .course) (at + len) (done ++ y .report)) where
   pub told-from : (more : ℕ) (x : Course) (at n : ℕ) (done : List ℕ) → Kept more x at done → P (tellFrom more s x at n done)
   unfolding tellFrom recordAt
-  told-from zero x at n done kept = is-stopped 14 n at (λ e. omega arith)
+  told-from zero x at n done kept = is-stopped 14 n at (omega arith)
   told-from (suc more) x at n done kept =
       cond-case P (eqb (x .phase) 2) _ _
       (λ closed. cond-case P (ltb at (length s)) (stopped 14 n at) (accepted x done)
-      (λ l. is-stopped 14 n at (λ e. omega arith))
+      (λ l. is-stopped 14 n at (omega arith))
       (λ l. is-accepted more x at done kept (eqb-true _ 2 closed) (ltb-false _ _ l)))
       (λ running. read-case P (recordAt s at) _ _
       (λ r len q. let y = stepOf x r in
       cond-case P (eqb (y .refusal) 0) (tellFrom more s (y .course) (at + len) (n + 1) (done ++ y .report)) _
       (λ e. told-from more (y .course) (at + len) (n + 1) (done ++ y .report)
       (is-passed more x at len done y kept (record { running = eqb-false _ 2 running; item = r; read = q; did = refl }) (eqb-true _ 0 e)))
-      (λ e. is-stopped (y .refusal) n at (eqb-false _ 0 e)))
+      (λ e. is-stopped (y .refusal) n at (record { some = eqb-false _ 0 e; most = refusal-le x r })))
       (λ k e. is-stopped k n at (at-unread (ltb at (length s)) s at k e)))
 
 -- ---- the reports only grow
 Grown : ℕ → Told → Type 0
 Grown l t = (w c e b : ℕ) → t .outcome ≡ Accepted w c e b → l ≤ b
 
-grown-stopped : (l k n at : ℕ) → (k ≡ 0 → ⊥) → Grown l (stopped k n at)
+grown-stopped : (l k n at : ℕ) → Fault k → Grown l (stopped k n at)
 unfolding Grown
-grown-stopped l k n at apart w c e b h = let never : _≡_ {A = ℕ} 0 1 = cc in absurd (omega arith)
+grown-stopped l k n at f w c e b h = let never : _≡_ {A = ℕ} 0 1 = cc in absurd (omega arith)
 
 grown-accepted : (l : ℕ) (x : Course) (done : List ℕ) → l ≤ length done → Grown l (accepted x done)
 unfolding Grown

@@ -1,5 +1,6 @@
 pub mod Step
 pub mod Schedule
 pub mod Whole
+pub mod Room
 pub mod Pass
 pub mod Case

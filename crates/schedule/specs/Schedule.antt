@@ -1,10 +1,9 @@
 -- What a schedule's records give, on its bytes (01, "Schedule bytes" and "Numbers of refusal"). Definitions only. Assumes nothing.
 use Prim.Native.Nat.{ℕ, zero, suc, _+_}
-use mathlib.Core.Path.{_≡_}
 use mathlib.Core.List.{List, [], _++_}
 use mathlib.Core.Bool.{false, cond}
 use lib.ListN.{length, drop}
-use lib.Dec.{ltb, leb, eqb}
+use lib.Dec.{ltb, eqb}
 use Rattle.records.specs.declared.Record.{Record}
 use Rattle.records.specs.declared.Read.{Read}
 use Rattle.records.specs.declared.Read.the-variants.{Got, Refused as Unread}

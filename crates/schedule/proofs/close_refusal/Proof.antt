@@ -5,7 +5,6 @@ use Rattle.schedule.specs.Step.{closeNo}
 use borrow.Author.Needs.{needs}
 use Rattle.schedule.proofs.close_refusal.Statement.{statement}
 use Rattle.schedule.proofs.close_refusal.Tie as tie
-use Rattle.board.proofs.inside_sum.Reads as inside-sum-reads
 
 inside-sum-requires : tie.Need-inside-sum-requires
 inside-sum-requires c κs = search needs

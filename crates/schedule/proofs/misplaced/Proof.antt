@@ -3,7 +3,6 @@ use Rattle.schedule.specs.Pass.{placeNo}
 use borrow.Author.Needs.{needs}
 use Rattle.schedule.proofs.misplaced.Statement.{statement}
 use Rattle.schedule.proofs.misplaced.Tie as tie
-use Rattle.schedule.proofs.out_of_phase.Reads as out-of-phase-reads
 
 enum-told : tie.Need-enum-told
 enum-told c = search needs

@@ -4,7 +4,6 @@ use Rattle.schedule.proofs.Reports.{noted-none}
 use borrow.Author.Needs.{needs}
 use Rattle.schedule.proofs.note.Statement.{statement}
 use Rattle.schedule.proofs.note.Tie as tie
-use Rattle.schedule.proofs.put_report.Reads as put-report-reads
 
 enum-told : tie.Need-enum-told
 enum-told c = search needs

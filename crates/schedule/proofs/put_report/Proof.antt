@@ -6,8 +6,6 @@ use Rattle.schedule.proofs.Reports.{size-most, noted-unwritten, noted-w
 use borrow.Author.Needs.{needs}
 use Rattle.schedule.proofs.put_report.Statement.{statement}
 use Rattle.schedule.proofs.put_report.Tie as tie
-use Rattle.records.proofs.put_record.Reads as put-record-reads
-use Rattle.records.proofs.size_of.Reads as size-of-reads
 
 size-of-requires : tie.Need-size-of-requires
 size-of-requires c κs = search needs

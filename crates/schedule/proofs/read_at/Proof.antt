@@ -4,7 +4,6 @@ use Rattle.schedule.proofs.Told.{record-none, record-part}
 use borrow.Author.Needs.{needs}
 use Rattle.schedule.proofs.read_at.Statement.{statement}
 use Rattle.schedule.proofs.read_at.Tie as tie
-use Rattle.records.proofs.read_in_schedule.Reads as read-in-schedule-reads
 
 returns : tie.Need-returns
 returns c = record-none _ _ (c .if1 .taken)
