@@ -191,12 +191,12 @@ pub fn is_sound(board: Board, width: u16, depth: u16) -> bool
 // ---- reads and stores: past the end the default is read, and nothing is stored
 
 // The place of a token; a number that is no token reads as a free one.
-pub fn place_at(board: Board, token: u16) -> Place
-    ensures { λ r. ⌜ r ≡ placeAt board token ⌝ }
+pub fn place_at(places: [Place; 256], token: u16) -> Place
+    ensures { λ r. ⌜ r ≡ getD places token freePlace ⌝ }
 {
     let at = token as usize;
     if at < 256 {
-        return board.places[at];
+        return places[at];
     }
     free_place()
 }
@@ -249,7 +249,8 @@ fn put_toggle(toggles: &mut [bool; 1152], cell: usize, down: bool)
 fn enter_refusal(board: Board, width: u16, token: u16, wire: u16) -> u8
     ensures { λ r. ⌜ r ≡ enterNo true width board token wire ⌝ }
 {
-    let p = place_at(board, token);
+    let places = board.places;
+    let p = place_at(places, token);
     if 255 < token {
         return 4;
     }

@@ -155,7 +155,8 @@ impl Run {
     {
         let board = self.board;
         let width = self.width;
-        let place = board::place_at(board, token);
+        let places = board.places;
+        let place = board::place_at(places, token);
         let refusal = board::turn_refusal(token, place);
         if refusal != 0 {
             return Turned {

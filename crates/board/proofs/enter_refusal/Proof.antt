@@ -1,6 +1,7 @@
 -- `board::enter_refusal` meets its contract: each return is the first number whose condition holds. Assumes nothing.
 use borrow.Author.Needs.{needs}
 use Rattle.order.proofs.Order.{order}
+use Rattle.board.specs.Board.{placeAt}
 use Rattle.board.specs.Enter.{enterNo}
 use Rattle.board.proofs.enter_refusal.Statement.{statement}
 use Rattle.board.proofs.enter_refusal.Tie as tie
@@ -17,15 +18,15 @@ unfolding enterNo
 returns-2 c = search order depth 12
 
 returns-3 : tie.Need-returns-3
-unfolding enterNo
+unfolding enterNo placeAt
 returns-3 c = rw (← c .before .before .before .place-at .ensures) (search order depth 12)
 
 returns-4 : tie.Need-returns-4
-unfolding enterNo
+unfolding enterNo placeAt
 returns-4 c = rw (← c .before .before .before .before .before .place-at .ensures) (search order depth 12)
 
 returns-5 : tie.Need-returns-5
-unfolding enterNo
+unfolding enterNo placeAt
 returns-5 c = rw (← c .before .before .before .before .before .place-at .ensures) (search order depth 12)
 
 pub enter-refusal-spec : {M : Type 1} → statement M

@@ -3,6 +3,7 @@ use borrow.Author.Needs.{needs}
 use mathlib.Core.Path.{_≡_}
 use native.Mathlib.Omega.{arith}
 use lib.ListN.{length}
+use Rattle.board.specs.Board.{placeAt}
 use Rattle.board.proofs.Lists.{mapped}
 use Rattle.run.proofs.Calls.{stands, turns-not, turns-pass, turns-deal}
 use Rattle.run.proofs.Run.turn_sound.Statement.{statement}
@@ -15,15 +16,17 @@ turn-refusal-requires : tie.Need-turn-refusal-requires
 turn-refusal-requires c κs = search needs
 
 returns : tie.Need-returns
+unfolding placeAt
 returns c =
-    turns-not _ _ (c .before .before .before .before .pre) _ (c .before .before .place-at .ensures) _ (c .before .turn-refusal .ensures) (c .if1 .taken)
+    turns-not _ _ (c .before .before .before .before .before .pre) _ (c .before .before .place-at .ensures) _ (c .before .turn-refusal .ensures) (c .if1 .taken)
 
 depth-of-requires : tie.Need-depth-of-requires
 depth-of-requires c κs = search needs
 
 feeds-at-requires : tie.Need-feeds-at-requires
+unfolding placeAt
 feeds-at-requires c κs =
-    let start = c .before .before .before .before .before .before .before in
+    let start = c .before .before .before .before .before .before .before .before in
     let long : length (start .args .self .board .places) ≡ 256 = search (needs, mapped) in
     let tested = c .before .before .before in
     let p = tested .before .before .place-at in
@@ -31,8 +34,9 @@ feeds-at-requires c κs =
     (omega (arith, c .before .before .depth-of .ensures), at .wire)
 
 pass-requires : tie.Need-pass-requires
+unfolding placeAt
 pass-requires c κs =
-    let start = c .before .before .before .before .before .before .before .before in
+    let start = c .before .before .before .before .before .before .before .before .before in
     let long : length (start .args .self .board .places) ≡ 256 = search (needs, mapped) in
     let tested = c .before .before .before .before in
     let p = tested .before .before .place-at in
@@ -43,14 +47,16 @@ moved-on-requires : tie.Need-moved-on-requires
 moved-on-requires c κs = search needs
 
 returns-2 : tie.Need-returns-2
+unfolding placeAt
 returns-2 c =
     let tested = c .before .before .before .before .before .before in
-    let start = tested .before .before .before .before in
+    let start = tested .before .before .before .before .before in
     turns-pass _ _ (start .pre) _ (tested .before .before .place-at .ensures) _ (tested .before .turn-refusal .ensures) (tested .if1 .left) _ (c .before .before .before .before .before .depth-of .ensures) _ _ (c .moved-on .ensures) _ (c .before .before .before .if2 .taken) (c .before .before .feeds-at .ensures) (c .before .pass .ensures)
 
 deal-requires : tie.Need-deal-requires
+unfolding placeAt
 deal-requires c κs =
-    let start = c .before .before .before .before .before .before .before in
+    let start = c .before .before .before .before .before .before .before .before in
     let long : length (start .args .self .board .places) ≡ 256 = search (needs, mapped) in
     let tested = c .before .before .before in
     let p = tested .before .before .place-at in
@@ -61,9 +67,10 @@ moved-on-requires-2 : tie.Need-moved-on-requires-2
 moved-on-requires-2 c κs = search needs
 
 returns-3 : tie.Need-returns-3
+unfolding placeAt
 returns-3 c =
     let tested = c .before .before .before .before .before in
-    let start = tested .before .before .before .before in
+    let start = tested .before .before .before .before .before in
     turns-deal _ _ (start .pre) _ (tested .before .before .place-at .ensures) _ (tested .before .turn-refusal .ensures) (tested .if1 .left) _ (c .before .before .before .before .depth-of .ensures) _ _ (c .moved-on2 .ensures) (c .before .before .if2 .left) (c .before .deal .ensures)
 
 pub turn-sound-spec : {M : Type 1} → statement M
