@@ -5,9 +5,17 @@ use native.Mathlib.Omega.{arith}
 use lib.ListN.{length}
 use Rattle.board.specs.Board.{placeAt}
 use Rattle.board.proofs.Lists.{mapped}
-use Rattle.run.proofs.Calls.{stands, turns-not, turns-pass, turns-deal}
+use Rattle.run.proofs.Calls.{Stands, stands, turns-not, turns-pass, turns-deal}
 use Rattle.run.proofs.Run.turn_sound.Statement.{statement}
 use Rattle.run.proofs.Run.turn_sound.Tie as tie
+
+-- past the refusals the token stands at its place
+standing : (c : tie.Else1) → Stands (c .before .before .before .before .before .args .self) (c .before .before .before .before .before .args .token) (c .before .before .place-at .result)
+unfolding placeAt
+standing c =
+    let start = c .before .before .before .before .before in
+    let long : length (start .args .self .board .places) ≡ 256 = search (needs, mapped) in
+    stands _ _ (start .pre) _ (c .before .before .place-at .ensures) _ (c .before .turn-refusal .ensures) (c .if1 .left) long
 
 place-at-requires : tie.Need-place-at-requires
 place-at-requires c κs = search needs
@@ -24,24 +32,14 @@ depth-of-requires : tie.Need-depth-of-requires
 depth-of-requires c κs = search needs
 
 feeds-at-requires : tie.Need-feeds-at-requires
-unfolding placeAt
-feeds-at-requires c κs =
-    let start = c .before .before .before .before .before .before .before .before in
-    let long : length (start .args .self .board .places) ≡ 256 = search (needs, mapped) in
-    let tested = c .before .before .before in
-    let p = tested .before .before .place-at in
-    let at = stands _ _ (start .pre) _ (p .ensures) _ (tested .before .turn-refusal .ensures) (tested .if1 .left) long in
-    (omega (arith, c .before .before .depth-of .ensures), at .wire)
+feeds-at-requires c κs = (omega (arith, c .before .before .depth-of .ensures), standing (c .before .before .before) .wire)
 
 pass-requires : tie.Need-pass-requires
 unfolding placeAt
 pass-requires c κs =
-    let start = c .before .before .before .before .before .before .before .before .before in
-    let long : length (start .args .self .board .places) ≡ 256 = search (needs, mapped) in
     let tested = c .before .before .before .before in
-    let p = tested .before .before .place-at in
-    let at = stands _ _ (start .pre) _ (p .ensures) _ (tested .before .turn-refusal .ensures) (tested .if1 .left) long in
-    (at .token, (p .ensures, omega (arith, at .level)))
+    let at = standing tested in
+    (at .token, (tested .before .before .place-at .ensures, omega (arith, at .level)))
 
 moved-on-requires : tie.Need-moved-on-requires
 moved-on-requires c κs = search needs
@@ -54,14 +52,9 @@ returns-2 c =
     turns-pass _ _ (start .pre) _ (tested .before .before .place-at .ensures) _ (tested .before .turn-refusal .ensures) (tested .if1 .left) _ (c .before .before .before .before .before .depth-of .ensures) _ _ (c .moved-on .ensures) _ (c .before .before .before .if2 .taken) (c .before .before .feeds-at .ensures) (c .before .pass .ensures)
 
 deal-requires : tie.Need-deal-requires
-unfolding placeAt
 deal-requires c κs =
-    let start = c .before .before .before .before .before .before .before .before in
-    let long : length (start .args .self .board .places) ≡ 256 = search (needs, mapped) in
-    let tested = c .before .before .before in
-    let p = tested .before .before .place-at in
-    let at = stands _ _ (start .pre) _ (p .ensures) _ (tested .before .turn-refusal .ensures) (tested .if1 .left) long in
-    (at .token, (at .width, at .count (p .result .wire)))
+    let at = standing (c .before .before .before) in
+    (at .token, (at .width, at .count _))
 
 moved-on-requires-2 : tie.Need-moved-on-requires-2
 moved-on-requires-2 c κs = search needs
