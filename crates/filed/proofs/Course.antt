@@ -13,7 +13,7 @@ use Rattle.run.specs.declared.Run.{Run}
 use Rattle.run.specs.Run.{fresh, openOf, enterOf, turnOf}
 use Rattle.records.specs.declared.Record.{Record}
 use Rattle.records.specs.declared.Record.the-variants.{Open, Enter, Turn, Close, Number}
-use Rattle.schedule.specs.Step.{Course, course, atStart, Step, closeNo, stepOf}
+use Rattle.schedule.specs.Step.{Course, course, atStart, Step, closeNo, placeNo, servedOf, stepOf}
 use Rattle.promise.specs.History.{Call, enter, turn, callOf, callsOf, history}
 use Rattle.filed.specs.Calls.{callIn}
 use Rattle.filed.specs.Filed.{reportsOf}
@@ -52,7 +52,7 @@ module _ (calls : List Call) (done : List ℕ) where
   Onward made y = y .refusal ≡ 0 → Follows (y .course) (calls ++ made) (done ++ y .report)
 
 onward-open : (w c : ℕ) → Onward [] [] [] (stepOf atStart (Open w c))
-unfolding stepOf atStart openOf Onward
+unfolding placeNo servedOf stepOf atStart openOf Onward
 onward-open w c h = underway (reported-open w c h)
 
 module _ {x : Run} {calls : List Call} {done : List ℕ} (r : Reported x calls done) where
@@ -68,20 +68,20 @@ module _ {x : Run} {calls : List Call} {done : List ℕ} (r : Reported x calls d
       }
 
   onward-enter : (t v : ℕ) → Onward calls done (enter t v ∷ []) (stepOf (course 1 x) (Enter t v))
-  unfolding stepOf callOf enterOf reportsOf Onward
+  unfolding placeNo servedOf stepOf callOf enterOf reportsOf Onward
   onward-enter t v h = underway (reported-call (enter t v) refl refl)
 
   onward-turn : (t : ℕ) → Onward calls done (turn t ∷ []) (stepOf (course 1 x) (Turn t))
-  unfolding stepOf callOf turnOf Onward
+  unfolding placeNo servedOf stepOf callOf turnOf Onward
   onward-turn t h = rw reports-dealOf (underway (reported-call (turn t) refl refl))
 
   onward-close : (e : ℕ) → Onward calls done [] (stepOf (course 1 x) (Close e))
-  unfolding stepOf Onward
+  unfolding placeNo servedOf stepOf Onward
   onward-close e h = rw (append-nil calls, append-nil done) (closed r (close-empty x e h))
 
 pub follows-step : {x : Course} {calls : List Call} {done : List ℕ} → Follows x calls done → (r : Record) → stepOf x r .refusal ≡ 0
     → Follows (stepOf x r .course) (calls ++ callIn r) (done ++ stepOf x r .report)
-unfolding stepOf atStart Onward callIn
+unfolding placeNo servedOf stepOf atStart Onward callIn
 follows-step unopened (Open w c) h = onward-open w c h
 follows-step unopened (Enter t v) h = absurd (omega arith)
 follows-step unopened (Turn t) h = absurd (omega arith)

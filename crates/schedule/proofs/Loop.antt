@@ -1,23 +1,22 @@
--- One pass over a schedule's bytes. In order: what holds at the loop's head; what the pass leaves at each way out; a record in and
--- out of its phase; that the head is reached again. Assumes nothing.
+-- One pass over a schedule's bytes. In order: what holds at the loop's head; what the pass leaves at each way out; a record out of its place;
+-- that the head is reached again. Assumes nothing.
 use mathlib.Core.Path.{_≡_, refl, sym, _∙_, ap}
 use mathlib.Core.Bool.{Bool, true, false, cond}
 use mathlib.Core.List.{List, [], _++_}
 use Prim.Native.Nat.{ℕ, suc, _+_, _-_, _*_, _<_, _≤_}
 use native.Mathlib.Nat.{sub-zero}
 use native.Mathlib.Omega.{arith}
-use lib.Dec.{eqb}
 use lib.ListN.{length, length-append}
+use borrow.Author.Tests.{ne-eqb}
 use Rattle.records.specs.declared.Record.{Record}
-use Rattle.records.specs.declared.Record.the-variants.{Open, Enter, Turn, Close, Number}
 use Rattle.records.specs.declared.Read.{Read}
 use Rattle.records.specs.declared.Read.the-variants.{Got, Refused as Unread}
 use Rattle.order.specs.Order.{over}
 use Rattle.schedule.specs.declared.Outcome.{Outcome}
 use Rattle.schedule.specs.declared.Outcome.the-variants.{Accepted, Refused}
-use Rattle.schedule.specs.Step.{Course, atStart, step, stepOf}
+use Rattle.schedule.specs.Step.{Course, atStart, step, placeNo, stepOf}
 use Rattle.schedule.specs.Schedule.{Told, stopped, accepted, recordAt, tellFrom, tell}
-use Rattle.schedule.specs.Pass.{numberOf, placeNo, RoomFor, Noted, Fits, Passable, PassIs}
+use Rattle.schedule.specs.Pass.{numberOf, RoomFor, Noted, Fits, Passable, PassIs}
 use Rattle.schedule.proofs.Ready.{Ready, ready-start, ready-step}
 use Rattle.schedule.proofs.Reports.{over-none, over-next, length-over}
 use Rattle.schedule.proofs.Told.{Stepped, place, Rest, rest-late, rest-whole, rest-unread, rest-refused, rest-passed, done-fits}
@@ -102,22 +101,10 @@ module _ {s out₀ : List ℕ} {w : Bool} {out : List ℕ} {x : Course} {at n fi
         same-length = same-length;
       }
 
--- ---- a record out of its phase, and in it
-out-of-place : (b : Bool) → (_≡_ {A = ℕ} (cond b 0 14) 0 → ⊥) → b ≡ false
-out-of-place true h = absurd (h refl)
-out-of-place false h = refl
-
-misplaced-step : (x : Course) (r : Record) → (placeNo (x .phase) r ≡ 0 → ⊥) → step (placeNo (x .phase) r) [] x ≡ stepOf x r
-unfolding placeNo stepOf
-misplaced-step x (Open w c) h = rw (out-of-place (eqb (x .phase) 0) h)
-misplaced-step x (Enter t v) h = rw (out-of-place (eqb (x .phase) 1) h)
-misplaced-step x (Turn t) h = rw (out-of-place (eqb (x .phase) 1) h)
-misplaced-step x (Close e) h = rw (out-of-place (eqb (x .phase) 1) h)
-misplaced-step x (Number t v n) h = refl
-
-pub in-place : (b : Bool) → _≡_ {A = ℕ} (cond b 0 14) 0 → b ≡ true
-in-place true h = refl
-in-place false h = absurd (omega arith)
+-- ---- a record out of its place
+misplaced-step : (x : Course) (r : Record) {k : ℕ} → k ≡ placeNo (x .phase) r → (k ≡ 0 → ⊥) → step k [] x ≡ stepOf x r
+unfolding stepOf
+misplaced-step x r e h = rw (← e, ne-eqb _ 0 h)
 
 -- ---- a record carried out from the course x: its number, the course and the output after it
 pub record Done (s : List ℕ) (w : Bool) (x : Course) (at len filled : ℕ) (out : List ℕ) (number : ℕ) (y : Course) (filled′ : ℕ) (out′ : List ℕ) : Type 0 where
@@ -134,7 +121,7 @@ module _ {s out₀ : List ℕ} {w : Bool} {out : List ℕ} {x : Course} {at n fi
         running = running;
         item = item;
         read = sym e ∙ f;
-        did = rw said (misplaced-step x item (rw said at h));
+        did = misplaced-step x item said h;
       } in
       ends g (g .done) (g .wrote) number (rest-refused s x at n (g .done) (few g) len _ p h)
 

@@ -1,7 +1,6 @@
 -- Through a schedule the run stays sound from the open to the close, so that no record has to judge it. Assumes nothing.
-use mathlib.Core.Path.{_≡_}
-use mathlib.Core.Bool.{true}
-use mathlib.Core.List.{[]}
+use mathlib.Core.Path.{_≡_, refl}
+use mathlib.Core.Bool.{Bool, true, false, cond}
 use Prim.Native.Nat.{ℕ}
 use native.Mathlib.Omega.{arith}
 use lib.Dec.{eqb}
@@ -12,7 +11,7 @@ use Rattle.run.specs.Run.{fresh, openOf, sound}
 use Rattle.run.proofs.Keeps.{Shaped, shaped-fresh, shaped-enter, shaped-turn, fresh-sound, enter-keeps, turn-keeps}
 use Rattle.records.specs.declared.Record.{Record}
 use Rattle.records.specs.declared.Record.the-variants.{Open, Enter, Turn, Close, Number}
-use Rattle.schedule.specs.Step.{Course, course, atStart, Step, step, inPhase, stepOf}
+use Rattle.schedule.specs.Step.{Course, course, atStart, Step, placeNo, servedOf, stepOf}
 
 pub record Ready (x : Course) : Type 0 where
   pub shaped : Shaped (x .run)
@@ -34,23 +33,28 @@ ready-open : (w c : ℕ) → openOf w c .refusal ≡ 0 → Ready (course 1 (open
 unfolding openOf
 ready-open w c h = rw (eq-eqb _ 0 h) (ready-sound (fresh w c) (shaped-fresh w c) (fresh-sound w c h))
 
-module _ (x : Course) (ready : Ready x) where
-  -- what is to be shown of what a record gives
-  Onward : Step → Type 0
-  Onward y = y .refusal ≡ 0 → Ready (y .course)
+-- a record in its place finds its phase
+pub its-phase : (p q : ℕ) → _≡_ {A = ℕ} (cond (eqb p q) 0 14) 0 → p ≡ q
+its-phase p q h = eqb-true p q (zero-test _ h)
+  where
+    zero-test : (b : Bool) → _≡_ {A = ℕ} (cond b 0 14) 0 → b ≡ true
+    zero-test true h = refl
+    zero-test false h = absurd (omega arith)
 
-  in-phase : (p : ℕ) (y : Step) → (x .phase ≡ p → Onward y) → Onward (inPhase p x y)
-  unfolding Onward
-  in-phase p y h = cond-case Onward (eqb (x .phase) p) y (step 14 [] x) (λ e. h (eqb-true _ p e)) (λ e z. ready)
+module _ (x : Course) (ready : Ready x) where
+  ready-served : (r : Record) → placeNo (x .phase) r ≡ 0 → servedOf (x .run) r .refusal ≡ 0 → Ready (servedOf (x .run) r .course)
+  unfolding placeNo servedOf
+  ready-served (Open w c) p h = ready-open w c h
+  ready-served (Enter t v) p h =
+      ready-sound _ (shaped-enter (x .run) (ready .shaped) t v) (enter-keeps (x .run) t v (ready .shaped) (ready .underway (its-phase _ 1 p)))
+  ready-served (Turn t) p h =
+      ready-sound _ (shaped-turn (x .run) (ready .shaped) t) (turn-keeps (x .run) t (ready .shaped) (ready .underway (its-phase _ 1 p)))
+  ready-served (Close e) p h = ready-idle 2 (x .run) (λ e. omega arith) (ready .shaped)
+  ready-served (Number t v n) p h = absurd (omega arith)
 
   pub ready-step : (r : Record) → stepOf x r .refusal ≡ 0 → Ready (stepOf x r .course)
-  unfolding stepOf Onward
-  ready-step (Open w c) = in-phase 0 _ (λ p. ready-open w c)
-  ready-step (Enter t v) =
-      in-phase 1 _
-      (λ p h. ready-sound _ (shaped-enter (x .run) (ready .shaped) t v) (enter-keeps (x .run) t v (ready .shaped) (ready .underway p)))
-  ready-step (Turn t) =
-      in-phase 1 _
-      (λ p h. ready-sound _ (shaped-turn (x .run) (ready .shaped) t) (turn-keeps (x .run) t (ready .shaped) (ready .underway p)))
-  ready-step (Close e) = in-phase 1 _ (λ p h. ready-idle 2 (x .run) (λ e. omega arith) (ready .shaped))
-  ready-step (Number t v n) = λ h. ready
+  unfolding stepOf
+  ready-step r =
+      cond-case (λ (y : Step). y .refusal ≡ 0 → Ready (y .course)) (eqb (placeNo (x .phase) r) 0) _ _
+      (λ p. ready-served r (eqb-true _ 0 p))
+      (λ p h. ready)

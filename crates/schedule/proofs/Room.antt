@@ -26,7 +26,7 @@ use Rattle.records.specs.declared.Record.{Record}
 use Rattle.records.specs.declared.Record.the-variants.{Open, Enter, Turn, Close, Number}
 use Rattle.schedule.specs.declared.Outcome.{Outcome}
 use Rattle.schedule.specs.declared.Outcome.the-variants.{Accepted, Refused}
-use Rattle.schedule.specs.Step.{Course, atStart, Step, step, reportOf, inPhase, stepOf}
+use Rattle.schedule.specs.Step.{Course, atStart, Step, reportOf, placeNo, servedOf, stepOf}
 use Rattle.schedule.specs.Schedule.{Told, tell}
 use Rattle.schedule.specs.Whole.{settle, runOf, valuesOf}
 use Rattle.schedule.specs.Room.{Room}
@@ -81,20 +81,21 @@ module _ (x : Board) (s : Shaped x) (t : ℕ) (good : Bool) (w : ℕ) where
       (λ _. omega arith)
 
 -- ---- a record
-module _ (x : Course) where
+module _ (x : Course) (ready : Ready x) where
   abbrev PaidIn : Step → Type 0
   PaidIn y = Paid (x .run .board) (y .report) (y .course .run .board)
 
-  in-phase : (p : ℕ) (y : Step) → PaidIn y → PaidIn (inPhase p x y)
-  in-phase p y h = cond-case PaidIn (eqb (x .phase) p) y (step 14 [] x) (λ _. h) (λ _. omega arith)
+  paid-served : (r : Record) → PaidIn (servedOf (x .run) r)
+  unfolding servedOf enterOf turnOf
+  paid-served (Open w c) = paid-open (x .run .board) w c
+  paid-served (Enter t v) = paid-enter (x .run .board) (ready .shaped) t (sound (x .run)) (x .run .width) v
+  paid-served (Turn t) = paid-turn (x .run .board) (ready .shaped) t (sound (x .run)) (x .run .width) _ _ _
+  paid-served (Close e) = omega arith
+  paid-served (Number t v n) = omega arith
 
-  paid-step : Ready x → (r : Record) → PaidIn (stepOf x r)
-  unfolding stepOf enterOf turnOf
-  paid-step ready (Open w c) = in-phase 0 _ (paid-open (x .run .board) w c)
-  paid-step ready (Enter t v) = in-phase 1 _ (paid-enter (x .run .board) (ready .shaped) t (sound (x .run)) (x .run .width) v)
-  paid-step ready (Turn t) = in-phase 1 _ (paid-turn (x .run .board) (ready .shaped) t (sound (x .run)) (x .run .width) _ _ _)
-  paid-step ready (Close e) = in-phase 1 _ (omega arith)
-  paid-step ready (Number t v n) = omega arith
+  paid-step : (r : Record) → PaidIn (stepOf x r)
+  unfolding stepOf
+  paid-step r = cond-case PaidIn (eqb (placeNo (x .phase) r) 0) _ _ (λ _. paid-served r) (λ _. omega arith)
 
 -- ---- a schedule: the bytes up to the offset `at` pay for the reports done
 record Kept (s : List ℕ) (x : Course) (at : ℕ) (done : List ℕ) : Type 0 where

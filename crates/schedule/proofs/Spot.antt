@@ -1,13 +1,12 @@
 -- A record in its phase at the head of the loop over a schedule's bytes: where each fact stands, and what each kind of record
 -- gives. Assumes nothing.
-use mathlib.Core.Path.{_≡_, refl, sym, _∙_}
-use mathlib.Core.Bool.{Bool, true, cond}
+use mathlib.Core.Path.{_≡_}
+use mathlib.Core.Bool.{Bool, true}
 use mathlib.Core.List.{List, []}
 use Prim.Native.Nat.{ℕ}
 use native.Mathlib.Decide.{ℕ-discrete}
 use native.Mathlib.Omega.{arith}
-use lib.Dec.{eqb}
-use borrow.Author.Tests.{eqb-true}
+use borrow.Author.Tests.{eq-eqb}
 use Rattle.board.specs.Answer.{valuesOf}
 use Rattle.run.specs.declared.Opened.{Opened}
 use Rattle.run.specs.declared.Entered.{Entered}
@@ -16,12 +15,13 @@ use Rattle.run.specs.Run.{sound, openOf, enterOf, turnOf}
 use Rattle.records.specs.declared.Record.{Record}
 use Rattle.records.specs.declared.Record.the-variants.{Open, Enter, Turn, Close, Number}
 use Rattle.records.specs.declared.Read.the-variants.{Got}
-use Rattle.schedule.specs.Step.{Course, course, step, reportOf, closeNo, stepOf}
+use Rattle.schedule.specs.Step.{Course, course, step, reportOf, closeNo, placeNo, servedOf, stepOf}
 use Rattle.schedule.specs.Schedule.{recordAt}
-use Rattle.schedule.specs.Pass.{placeNo, RoomFor, Noted}
+use Rattle.schedule.specs.Pass.{RoomFor, Noted}
+use Rattle.schedule.proofs.Ready.{its-phase}
 use Rattle.schedule.proofs.Reports.{length-reportOf, report-refused, noted-none}
 use Rattle.schedule.proofs.Told.{Stepped}
-use Rattle.schedule.proofs.Loop.{Going, Done, in-place, room-carried, room-none}
+use Rattle.schedule.proofs.Loop.{Going, Done, room-carried, room-none}
 
 pub record Spot : Type 0 where
   pub s : List ℕ
@@ -44,11 +44,17 @@ module _ (c : Spot) where
   abbrev pub Gives : ℕ → Course → ℕ → List ℕ → Type 0
   Gives number y filled′ out′ = Done (c .s) (c .w) (c .x) (c .at) (c .len) (c .filled) (c .out) number y filled′ out′
 
-  spot-step : {number : ℕ} {report : List ℕ} {y : Course} {r : Record} → c .item ≡ r → step number report y ≡ stepOf (c .x) r
+  spot-step : {number : ℕ} {report : List ℕ} {y : Course} {r : Record} → c .item ≡ r → step number report y ≡ servedOf (c .x .run) r
       → Stepped (c .s) (c .x) (c .at) (c .len) (step number report y)
-  spot-step e did = record { running = c .running; item = c .item; read = c .read; did = rw e did }
+  unfolding stepOf
+  spot-step e did = record {
+    running = c .running;
+    item = c .item;
+    read = c .read;
+    did = rw (eq-eqb _ 0 (c .right), e) did;
+  }
 
-  silent : {number : ℕ} {y : Course} {r : Record} → c .item ≡ r → step number [] y ≡ stepOf (c .x) r → Gives number y (c .filled) (c .out)
+  silent : {number : ℕ} {y : Course} {r : Record} → c .item ≡ r → step number [] y ≡ servedOf (c .x .run) r → Gives number y (c .filled) (c .out)
   silent e did = record {
     report = [];
     stepped = spot-step e did;
@@ -56,21 +62,18 @@ module _ (c : Spot) where
     noted = noted-none (c .out) (c .filled) (c .w);
   }
 
-  in-phase : (p : ℕ) {r : Record} → c .item ≡ r → _≡_ {A = ℕ} (placeNo (c .x .phase) r) (cond (eqb (c .x .phase) p) 0 14) → c .x .phase ≡ p
-  in-phase p e f = eqb-true _ p (in-place _ (sym f ∙ rw (← e) (c .right)))
-
   pub gives-open : {w k : ℕ} {y : Opened} → c .item ≡ Open w k → y ≡ openOf w k → Gives (y .refusal) (course 1 (y .run)) (c .filled) (c .out)
-  unfolding placeNo stepOf
-  gives-open e f = silent e (rw (f, in-phase 0 e refl))
+  unfolding servedOf
+  gives-open e f = silent e (rw f)
 
   pub gives-enter : {t v : ℕ} {y : Entered} → c .item ≡ Enter t v → y ≡ enterOf (c .x .run) t v
       → Gives (y .refusal) (course (c .x .phase) (y .run)) (c .filled) (c .out)
-  unfolding placeNo stepOf
-  gives-enter e f = silent e (rw (f, in-phase 1 e refl))
+  unfolding placeNo servedOf
+  gives-enter e f = silent e (rw (f, its-phase (c .x .phase) 1 (rw e at (c .right))))
 
   pub gives-close : {m k : ℕ} → c .item ≡ Close m → k ≡ closeNo (c .x .run) m → Gives k (course 2 (c .x .run)) (c .filled) (c .out)
-  unfolding placeNo stepOf
-  gives-close e f = silent e (rw (f, in-phase 1 e refl))
+  unfolding servedOf
+  gives-close e f = silent e (rw f)
 
   pub never-report : {t v n : ℕ} → c .item ≡ Number t v n → ⊥
   unfolding placeNo
@@ -78,16 +81,16 @@ module _ (c : Spot) where
 
   pub underway-enter : {t v : ℕ} → c .item ≡ Enter t v → sound (c .x .run) ≡ true
   unfolding placeNo
-  underway-enter e = c .going .ready .underway (in-phase 1 e refl)
+  underway-enter e = c .going .ready .underway (its-phase (c .x .phase) 1 (rw e at (c .right)))
 
   pub underway-turn : {t : ℕ} → c .item ≡ Turn t → sound (c .x .run) ≡ true
   unfolding placeNo
-  underway-turn e = c .going .ready .underway (in-phase 1 e refl)
+  underway-turn e = c .going .ready .underway (its-phase (c .x .phase) 1 (rw e at (c .right)))
 
   module _ {t : ℕ} {y : Turned} (e : c .item ≡ Turn t) (f : y ≡ turnOf (c .x .run) t) where
     turned : Stepped (c .s) (c .x) (c .at) (c .len) (step (valuesOf (y .answer) .refusal) (reportOf t (y .answer)) (course (c .x .phase) (y .run)))
-    unfolding placeNo stepOf
-    turned = spot-step e (rw (f, in-phase 1 e refl))
+    unfolding placeNo servedOf
+    turned = spot-step e (rw (f, its-phase (c .x .phase) 1 (rw e at (c .right))))
 
     -- a turn that is refused reports nothing
     pub room-turn : RoomFor (reportOf t (y .answer)) (c .w) (c .filled) (c .out)

@@ -5,9 +5,6 @@ use mathlib.Core.Path.{_≡_}
 use mathlib.Core.List.{List}
 use mathlib.Core.Bool.{Bool, true, cond}
 use lib.ListN.{length}
-use lib.Dec.{eqb}
-use Rattle.records.specs.declared.Record.{Record}
-use Rattle.records.specs.declared.Record.the-variants.{Open, Enter, Turn, Close, Number}
 use Rattle.records.specs.declared.Read.{Read}
 use Rattle.records.specs.declared.Read.the-variants.{Got, Refused as Unread}
 use Rattle.records.specs.Fields.{placed}
@@ -20,14 +17,6 @@ use Rattle.schedule.specs.Schedule.{tell}
 unfoldable pub numberOf : Read → ℕ
 numberOf (Got r len) = 0
 numberOf (Unread k) = k
-
--- why a record may not stand in a phase: 13 for a report, 14 for any other out of its phase
-unfoldable pub placeNo : ℕ → Record → ℕ
-placeNo p (Open w c) = cond (eqb p 0) 0 14
-placeNo p (Number t v n) = 13
-placeNo p (Enter t v) = cond (eqb p 1) 0 14
-placeNo p (Turn t) = cond (eqb p 1) 0 14
-placeNo p (Close e) = cond (eqb p 1) 0 14
 
 -- ---- a report behind those that fill `filled` bytes of the output
 -- where it is to be written there is room for it

@@ -46,15 +46,21 @@ reportOf t (Refused k) = []
 unfoldable pub closeNo : Run → ℕ → ℕ
 closeNo x e = cond (eqb (insideSum (x .board)) 0 && eqb (x .board .entered) e) 0 15
 
--- a record in its phase, or 14
-abbrev pub inPhase : ℕ → Course → Step → Step
-inPhase p x y = cond (eqb (x .phase) p) y (step 14 [] x)
+-- why a record may not stand in a phase: 14; a report may stand in none: 13
+unfoldable pub placeNo : ℕ → Record → ℕ
+placeNo p (Open w c) = cond (eqb p 0) 0 14
+placeNo p (Enter t v) = cond (eqb p 1) 0 14
+placeNo p (TurnRecord t) = cond (eqb p 1) 0 14
+placeNo p (Close e) = cond (eqb p 1) 0 14
+placeNo p (Number t v n) = 13
+
+-- what a record in its place gives, by the call's own order
+unfoldable pub servedOf : Run → Record → Step
+servedOf x (Open w c) = step (openOf w c .refusal) [] (course 1 (openOf w c .run))
+servedOf x (Enter t v) = let y = enterOf x t v in step (y .refusal) [] (course 1 (y .run))
+servedOf x (TurnRecord t) = let y = turnOf x t in step (valuesOf (y .answer) .refusal) (reportOf t (y .answer)) (course 1 (y .run))
+servedOf x (Close e) = step (closeNo x e) [] (course 2 x)
+servedOf x (Number t v n) = step 13 [] (course 0 x)
 
 unfoldable pub stepOf : Course → Record → Step
-stepOf x (Open w c) = inPhase 0 x (step (openOf w c .refusal) [] (course 1 (openOf w c .run)))
-stepOf x (Enter t v) = let y = enterOf (x .run) t v in inPhase 1 x (step (y .refusal) [] (course 1 (y .run)))
-stepOf x (TurnRecord t) =
-    let y = turnOf (x .run) t in
-    inPhase 1 x (step (valuesOf (y .answer) .refusal) (reportOf t (y .answer)) (course 1 (y .run)))
-stepOf x (Close e) = inPhase 1 x (step (closeNo (x .run) e) [] (course 2 (x .run)))
-stepOf x (Number t v n) = step 13 [] x
+stepOf x r = let k = placeNo (x .phase) r in cond (eqb k 0) (servedOf (x .run) r) (step k [] x)
