@@ -2,10 +2,10 @@
 // one of 32 bits (l), the length of what is lent (r), the kind of a record (1 to 5), bytes in hex (h), a list of a run record
 // (c, t, p).
 ghost use Prim.Native.Nat.{_≤_};
-use crate::lists;
-use crate::numbers;
-use crate::parts;
-use crate::words;
+use lines::numbers;
+use lines::parts;
+use lines::words;
+use run_text::lists;
 
 // The number of a line's call among these, from 0; 16 where it is none.
 //   0 open ss       4 record     8 read h    12 write r2ss
@@ -47,7 +47,7 @@ fn fits(word: &[u8], kind: u8) -> bool {
 // Is the line this call, written as in the table?
 fn is(line: &[u8], call: &[u8]) -> bool {
     let kinds = words::word(call, 1);
-    if !parts::is(words::word(line, 0), words::word(call, 0)) {
+    if !check::same(words::word(line, 0), words::word(call, 0)) {
         return false;
     }
     if words::count(line) != kinds.len() + 1 {

@@ -1,23 +1,14 @@
 // Every public call of the cabinet's software by a line of text: for a fitter at the bench, and for tests. Each line of
 // standard input has one line for an answer; a line that is no call is answered `?` and changes nothing.
-ghost use mathlib.Core.Path.{_≡_};
 ghost use lib.ListN.{length};
-ghost use Rattle.console.specs.Bounds.{Held};
+ghost use Rattle.lines.specs.Bounds.{Held};
 
-mod buffers;
 mod calls;
-mod input;
-mod lists;
-mod numbers;
-mod parts;
-mod record_calls;
-mod run_calls;
-mod run_text;
-mod sheet_calls;
-mod text;
-mod words;
 
-use input::Lines;
+use byte_calls::record_calls;
+use byte_calls::sheet_calls;
+use lines::input;
+use lines::input::Lines;
 use run::Run;
 
 // The calls, in one line.
@@ -38,7 +29,7 @@ fn show(call: usize, line: &[u8], text: &mut [u8], run: Run) {
         8 => record_calls::read(line, text),
         9 => record_calls::run(line, text),
         10 => help(),
-        16 => text::send_unknown(),
+        16 => answers::send_unknown(),
         _ => record_calls::write(line, text),
     }
 }
@@ -63,7 +54,7 @@ fn answer_held(input: &[u8], lines: Lines, text: &mut [u8], run: Run) -> Run
     requires { ⌜ Held (lines .from) (lines .end) (lines .to) (length (now input)) ⌝ }
 {
     if lines.too_long {
-        text::send_unknown();
+        answers::send_unknown();
         return run;
     }
     let from = lines.from;

@@ -1,4 +1,4 @@
-use Rattle.console.specs.Bounds.{Held}
+use Rattle.lines.specs.Bounds.{Held}
 use mathlib.Core.Path.{_≡_}
 use lib.ListN.{length}
 use borrow.Author.Needs.{needs}

@@ -19,8 +19,8 @@ word-requires-2 c κs = search needs
 word-requires-3 : tie.Need-word-requires-3 Inv-loop μ-loop
 word-requires-3 c κs = search needs
 
-is-requires : tie.Need-is-requires Inv-loop μ-loop
-is-requires c κs = search needs
+same-requires : tie.Need-same-requires Inv-loop μ-loop
+same-requires c κs = search needs
 
 returns : tie.Need-returns Inv-loop μ-loop
 returns c = search needs
@@ -73,7 +73,7 @@ is-spec =
     word-requires
     word-requires-2
     word-requires-3
-    is-requires
+    same-requires
     returns
     count-requires
     add-if2

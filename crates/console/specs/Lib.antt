@@ -1,2 +1,0 @@
--- What the bounds in the console's contracts say. Definitions only. Assumes nothing.
-pub mod Bounds

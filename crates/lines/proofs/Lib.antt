@@ -1,0 +1,3 @@
+mod Marked
+mod Digits
+mod Hex

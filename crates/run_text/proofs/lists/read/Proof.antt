@@ -1,0 +1,77 @@
+-- `run_text::lists::read` meets its contract. The invariant: the next entry starts within the text, or one behind it, and the
+-- entries passed leave what is entered. The measure is the bytes left. Assumes nothing.
+use mathlib.Core.Path.{_≡_}
+use lib.ListN.{length}
+use Prim.Native.Nat.{_+_, _-_, _≤_}
+use borrow.Author.Needs.{needs}
+use Rattle.run_text.proofs.lists.read.Statement.{statement}
+use Rattle.run_text.proofs.lists.read.Tie as tie
+
+abbrev Inv-loop : tie.InvT-loop
+Inv-loop list text board₀ least₀ from₀ board least from = (from ≤ length text + 1) × (board .entered ≡ board₀ .entered)
+
+abbrev μ-loop : tie.MeasureT-loop
+μ-loop list text board₀ least₀ from₀ board least from = length text + 1 - from
+
+slice-aggregate-same : tie.Need-slice-aggregate-same Inv-loop μ-loop
+slice-aggregate-same c = search needs
+
+same-requires : tie.Need-same-requires Inv-loop μ-loop
+same-requires c κs = search needs
+
+returns : tie.Need-returns Inv-loop μ-loop
+returns c = search needs
+
+loop-holds : tie.Need-loop-holds Inv-loop μ-loop
+loop-holds c = search needs
+
+end-of-requires : tie.Need-end-of-requires Inv-loop μ-loop
+end-of-requires c κs = search needs
+
+sub-entry : tie.Need-sub-entry Inv-loop μ-loop
+sub-entry c = search needs
+
+part-entry-start : tie.Need-part-entry-start Inv-loop μ-loop
+part-entry-start c = search needs
+
+part-entry-end : tie.Need-part-entry-end Inv-loop μ-loop
+part-entry-end c = search needs
+
+entry-requires : tie.Need-entry-requires Inv-loop μ-loop
+entry-requires c κs = search needs
+
+returns-2 : tie.Need-returns-2 Inv-loop μ-loop
+returns-2 c = search needs
+
+add-from : tie.Need-add-from Inv-loop μ-loop
+add-from c = search needs
+
+loop-less : tie.Need-loop-less Inv-loop μ-loop
+loop-less c = search needs
+
+loop-again : tie.Need-loop-again Inv-loop μ-loop
+loop-again c = search needs
+
+returns-3 : tie.Need-returns-3 Inv-loop μ-loop
+returns-3 c = search needs
+
+pub read-spec : {M : Type 1} → statement M
+read-spec =
+    tie.close
+    (tie.spec
+    Inv-loop
+    μ-loop
+    slice-aggregate-same
+    same-requires
+    returns
+    loop-holds
+    end-of-requires
+    sub-entry
+    part-entry-start
+    part-entry-end
+    entry-requires
+    returns-2
+    add-from
+    loop-less
+    loop-again
+    returns-3)

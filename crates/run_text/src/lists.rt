@@ -1,0 +1,150 @@
+// The lists of a run record, from text: entries with commas between them, their indexes within the record and strictly
+// rising; `-` is no entry. A list is exit counts (c), toggles that are down (t) or places of tokens (p).
+ghost use mathlib.Core.Path.{_≡_};
+ghost use Prim.Native.Nat.{_≤_};
+use board::Board;
+use board::Place;
+use lines::numbers;
+use lines::parts;
+
+// The board with what a list names; `ok` says whether the text was such a list.
+pub struct Listed {
+    pub ok: bool,
+    pub board: Board,
+}
+
+// The board with an entry, and the least index of the next one; 0 where the entry is refused.
+struct Stored {
+    next: usize,
+    board: Board,
+}
+
+fn refused(board: Board) -> Stored
+    ensures { λ r. ⌜ r .board .entered ≡ board .entered ⌝ }
+{
+    Stored { next: 0, board }
+}
+
+// The index that a text spells, from `least` on; `below` where it spells none below that.
+fn index(text: &[u8], least: usize, below: usize) -> usize
+    ensures { λ r. ⌜ r ≤ below ⌝ }
+{
+    let read = numbers::decimal(text, 65_535);
+    let at = read.value as usize;
+    if !read.ok | (at < least) {
+        return below;
+    }
+    if at < below { at } else { below }
+}
+
+// `i=n`
+fn count(entry: &[u8], least: usize, mut board: Board) -> Stored
+    ensures { λ r. ⌜ r .board .entered ≡ board .entered ⌝ }
+{
+    let at = index(parts::part(entry, b'=', 0), least, 64);
+    let dealt = numbers::decimal(parts::part(entry, b'=', 1), 4_294_967_295);
+    if !dealt.ok | (parts::count(entry, b'=') != 2) {
+        return refused(board);
+    }
+    if at == 64 {
+        return refused(board);
+    }
+    board.counts[at] = dealt.value as u32;
+    Stored {
+        next: at + 1,
+        board,
+    }
+}
+
+// `i`
+fn toggle(entry: &[u8], least: usize, mut board: Board) -> Stored
+    ensures { λ r. ⌜ r .board .entered ≡ board .entered ⌝ }
+{
+    let at = index(entry, least, 1152);
+    if at == 1152 {
+        return refused(board);
+    }
+    board.toggles[at] = true;
+    Stored {
+        next: at + 1,
+        board,
+    }
+}
+
+// The place that a text spells as `INSIDE/LEVEL/WIRE`; `ok` says whether it does.
+struct Seated {
+    ok: bool,
+    place: Place,
+}
+
+fn seat(text: &[u8]) -> Seated {
+    let inside = numbers::decimal(parts::part(text, b'/', 0), 1);
+    let level = numbers::decimal(parts::part(text, b'/', 1), 65_535);
+    let wire = numbers::decimal(parts::part(text, b'/', 2), 65_535);
+    Seated {
+        ok: (parts::count(text, b'/') == 3) & inside.ok & level.ok & wire.ok,
+        place: Place {
+            inside: inside.value == 1,
+            level: level.value as u16,
+            wire: wire.value as u16,
+        },
+    }
+}
+
+// `t=INSIDE/LEVEL/WIRE`
+fn place(entry: &[u8], least: usize, mut board: Board) -> Stored
+    ensures { λ r. ⌜ r .board .entered ≡ board .entered ⌝ }
+{
+    let at = index(parts::part(entry, b'=', 0), least, 256);
+    let seat = seat(parts::part(entry, b'=', 1));
+    if !seat.ok | (parts::count(entry, b'=') != 2) {
+        return refused(board);
+    }
+    if at == 256 {
+        return refused(board);
+    }
+    let place = seat.place;
+    board.places[at] = place;
+    Stored {
+        next: at + 1,
+        board,
+    }
+}
+
+fn entry(list: u8, text: &[u8], least: usize, board: Board) -> Stored
+    ensures { λ r. ⌜ r .board .entered ≡ board .entered ⌝ }
+{
+    match list {
+        b'c' => count(text, least, board),
+        b't' => toggle(text, least, board),
+        _ => place(text, least, board),
+    }
+}
+
+// Reads a list into the board.
+pub fn read(list: u8, text: &[u8], before: Board) -> Listed
+    ensures { λ r. ⌜ r .board .entered ≡ before .entered ⌝ }
+{
+    let mut board = before;
+    if check::same(text, b"-") {
+        return Listed { ok: true, board };
+    }
+    let mut least = 0;
+    let mut from = 0;
+    while from <= text.len() {
+        let end = parts::end_of(text, from, b',');
+        let stored = entry(list, &text[from..end], least, board);
+        least = stored.next;
+        board = stored.board;
+        if least == 0 {
+            return Listed { ok: false, board };
+        }
+        from = end + 1;
+    }
+    Listed { ok: true, board }
+}
+
+pub fn is_list(list: u8, text: &[u8]) -> bool {
+    let read = read(list, text, board::fresh());
+    read.ok
+}
