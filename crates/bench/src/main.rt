@@ -3,7 +3,7 @@
 // periodic sheet of width 64; 4: a gap list of 63,000 numbers; 5: writing and reading one record; 6: running a schedule of 65,536
 // bytes. Anything else, and no line at all, does nothing. `bench/peer.c` does the same in plain C.
 ghost use Prim.Native.Nat.{_≤_};
-use board::Turn;
+use moves::Turn;
 use records::Read;
 use records::Record;
 use run::Run;

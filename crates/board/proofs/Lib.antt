@@ -1,5 +1,2 @@
 pub mod Lists
 pub mod Sound
-pub mod Refusals
-pub mod Keeps
-pub mod Seen

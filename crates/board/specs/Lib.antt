@@ -1,5 +1,2 @@
 pub mod Board
 pub mod Sound
-pub mod Answer
-pub mod Enter
-pub mod Turn

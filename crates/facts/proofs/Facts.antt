@@ -8,9 +8,9 @@ use Rattle.rest.specs.Share.{share}
 use Rattle.rest.proofs.Share.{share-zero}
 use Rattle.board.specs.Board.{freshBoard, placeAt, countAt, downAt}
 use Rattle.board.specs.Sound.{all, sumOf, fewEntered, placesOk, countsBeyond, togglesBeyond, dealtSum, insideSum, addsUp, soundBoard}
-use Rattle.board.specs.Answer.{valuesOf}
-use Rattle.board.specs.Enter.{enterNo, entering, enterWith}
-use Rattle.board.specs.Turn.{turnNo, passing, dealing, turnWith}
+use Rattle.moves.specs.Answer.{valuesOf}
+use Rattle.moves.specs.Enter.{enterNo, entering, enterWith}
+use Rattle.moves.specs.Turn.{turnNo, passing, dealing, turnWith}
 use Rattle.run.specs.Run.{fresh, openOf, depthIn, sound, enterOf, feedsOf, turnOf}
 use Rattle.schedule.proofs.Cases.{empty-schedule, three-bytes}
 use Rattle.listing_text.proofs.Cases.{case-listing}

@@ -4,9 +4,9 @@ use mathlib.Core.Path.{_≡_, refl}
 use mathlib.Core.List.{List, [], _∷_, _++_, append-assoc, append-nil}
 use native.Mathlib.Omega.{arith}
 use lib.ListN.{length, length-append}
-use Rattle.board.specs.declared.Turn.{Turn}
-use Rattle.board.specs.declared.Turn.the-variants.{Passed, Dealt, Refused}
-use Rattle.board.specs.Answer.{valuesOf}
+use Rattle.moves.specs.declared.Turn.{Turn}
+use Rattle.moves.specs.declared.Turn.the-variants.{Passed, Dealt, Refused}
+use Rattle.moves.specs.Answer.{valuesOf}
 use Rattle.records.specs.Reading.{lengthOf}
 use Rattle.records.specs.Writing.{sizeOf}
 use Rattle.records.proofs.Writing.{length-bytesOf}

@@ -14,7 +14,7 @@ use lib.ListN.{length, getD, set, length-append, length-set}
 use lib.Seq.{drop-cons, set-append-seam}
 use Rattle.order.specs.Order.{over}
 use Rattle.board.specs.Board.{countAt}
-use Rattle.board.specs.Turn.{numberAt}
+use Rattle.moves.specs.Turn.{numberAt}
 use Rattle.rest.specs.Share.{share}
 use Rattle.gaps.specs.Gaps.{missing, larger, highestAt, highest, gapsBelow}
 use Rattle.gaps.specs.Counts.{ofCounts, CanWalk}

@@ -9,7 +9,7 @@ use Rattle.order.specs.declared.Filled.{Filled}
 use Rattle.order.specs.Order.{_⟶_, firstOf, filledOf, over}
 use Rattle.board.specs.declared.Board.{Board}
 use Rattle.board.specs.Board.{countAt}
-use Rattle.board.specs.Turn.{numberAt}
+use Rattle.moves.specs.Turn.{numberAt}
 use Rattle.run.specs.declared.Run.{Run}
 use Rattle.run.specs.Run.{sound}
 

@@ -9,7 +9,7 @@ ghost use Prim.Native.Nat.{_-_, _≤_, _<_};
 ghost use lib.Dec.{eqb};
 ghost use lib.ListN.{length};
 ghost use Rattle.order.specs.Order.{over};
-ghost use Rattle.board.specs.Turn.{numberAt};
+ghost use Rattle.moves.specs.Turn.{numberAt};
 ghost use Rattle.rest.specs.Share.{share};
 ghost use Rattle.gaps.specs.Gaps.{larger, highest, gapsBelow, GapsIs};
 ghost use Rattle.gaps.specs.Counts.{ofCounts, CanWalk, FillIs};

@@ -6,13 +6,13 @@ use mathlib.Core.List.{List, [], _∷_}
 use lib.Dec.{eqb, ltb}
 use borrow.Author.Tests.{eqb-true, eqb-false, ltb-true, ltb-false}
 use Rattle.board.specs.declared.Board.{Board}
-use Rattle.board.specs.declared.Moved.{Moved}
-use Rattle.board.specs.declared.Turn.the-variants.{Refused}
+use Rattle.moves.specs.declared.Moved.{Moved}
+use Rattle.moves.specs.declared.Turn.the-variants.{Refused}
 use Rattle.board.specs.Board.{placeAt}
-use Rattle.board.specs.Answer.{valuesOf}
-use Rattle.board.specs.Enter.{enterNo, entering, enterWith}
-use Rattle.board.specs.Turn.{turnNo, passing, dealing, turnWith}
-use Rattle.board.proofs.Refusals.{CanEnter, CanTurn, can-enter, can-turn}
+use Rattle.moves.specs.Answer.{valuesOf}
+use Rattle.moves.specs.Enter.{enterNo, entering, enterWith}
+use Rattle.moves.specs.Turn.{turnNo, passing, dealing, turnWith}
+use Rattle.moves.proofs.Refusals.{CanEnter, CanTurn, can-enter, can-turn}
 use Rattle.run.specs.declared.Run.{Run}
 use Rattle.run.specs.Run.{sound, depthIn, feedsOf, enterOf, turnOf}
 use Rattle.promise.proofs.Record.{dealAt}

@@ -14,7 +14,7 @@ use Rattle.rest.proofs.Share.{share-own, lt-share}
 use Rattle.board.specs.declared.Board.{Board}
 use Rattle.board.specs.Board.{placeAt, countAt}
 use Rattle.board.specs.Sound.{insideSum}
-use Rattle.board.specs.Enter.{at}
+use Rattle.moves.specs.Enter.{at}
 use Rattle.run.specs.declared.Run.{Run}
 use Rattle.run.specs.Run.{enterOf}
 use Rattle.promise.specs.History.{Call, enter, Deal, After, callOf, callsOf, history, times, dealtTo, dealtAt}

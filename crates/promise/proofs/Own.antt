@@ -6,7 +6,7 @@ use native.Mathlib.Nat.{mul-le-mul-left}
 use native.Mathlib.Decide.{decLt}
 use native.Mathlib.Omega.{arith}
 use Rattle.board.specs.Board.{placeAt}
-use Rattle.board.specs.Enter.{at}
+use Rattle.moves.specs.Enter.{at}
 use Rattle.run.specs.declared.Run.{Run}
 use Rattle.run.specs.Run.{depthIn, enterOf}
 use Rattle.promise.specs.History.{Call, enter, Deal, callOf, callsOf, history, dealtTo, turnsOf}

@@ -15,10 +15,10 @@ use Rattle.board.specs.declared.Place.{Place}
 use Rattle.board.specs.declared.Board.{Board}
 use Rattle.board.specs.Board.{freePlace, placeAt}
 use Rattle.board.specs.Sound.{sumOf}
-use Rattle.board.specs.Enter.{at}
-use Rattle.board.specs.Turn.{turnNo}
+use Rattle.moves.specs.Enter.{at}
+use Rattle.moves.specs.Turn.{turnNo}
 use Rattle.board.proofs.Lists.{read-out}
-use Rattle.board.proofs.Seen.{place-entering, place-entering-other, place-passing, place-passing-other, place-dealing, place-dealing-other}
+use Rattle.moves.proofs.Seen.{place-entering, place-entering-other, place-passing, place-passing-other, place-dealing, place-dealing-other}
 use Rattle.run.specs.declared.Run.{Run}
 use Rattle.run.specs.Run.{sound, depthIn, feedsOf, enterOf}
 use Rattle.run.proofs.Keeps.{Shaped, enter-number}

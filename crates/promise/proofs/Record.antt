@@ -11,12 +11,12 @@ use Rattle.board.specs.declared.Place.{Place}
 use Rattle.board.specs.declared.Board.{Board}
 use Rattle.board.specs.Board.{freePlace, freshBoard, placeAt, countAt, cellAt, downAt}
 use Rattle.board.specs.Sound.{sumOf, insideOne, insideSum}
-use Rattle.board.specs.Enter.{at, entering}
-use Rattle.board.specs.Turn.{passing, numberAt, dealing}
+use Rattle.moves.specs.Enter.{at, entering}
+use Rattle.moves.specs.Turn.{passing, numberAt, dealing}
 use Rattle.board.proofs.Lists.{sum-set, sum-replicate}
 use Rattle.board.proofs.Sound.{Shaped}
-use Rattle.board.proofs.Keeps.{cell-below}
-use Rattle.board.proofs.Seen.{cell-apart, down-entering, count-entering, down-passing, down-passing-other, count-passing, down-dealing, count-dealing, count-dealing-other}
+use Rattle.moves.proofs.Keeps.{cell-below}
+use Rattle.moves.proofs.Seen.{cell-apart, down-entering, count-entering, down-passing, down-passing-other, count-passing, down-dealing, count-dealing, count-dealing-other}
 use Rattle.promise.specs.History.{Deal}
 use Rattle.promise.proofs.Core.{Seen, one, side, Opens, Enters, Passes, Deals}
 use Rattle.promise.proofs.Kept.{Kept, kept-open, kept-enter, kept-pass, kept-deal}

@@ -5,7 +5,7 @@ use mathlib.Core.Bool.{cond}
 use mathlib.Core.List.{List, [], _∷_, _++_}
 use Rattle.rest.specs.Sum.{only}
 use Rattle.board.specs.Sound.{sumOf}
-use Rattle.board.specs.Answer.{Values, valuesOf}
+use Rattle.moves.specs.Answer.{Values, valuesOf}
 use Rattle.run.specs.declared.Run.{Run}
 use Rattle.run.specs.Run.{openOf, enterOf, turnOf}
 

@@ -12,15 +12,15 @@ use Rattle.network.specs.Widths.{openNo, depthOf}
 use Rattle.network.specs.Rows.{placeOf}
 use Rattle.network.proofs.Widths.{depthOf-small, width-small}
 use Rattle.board.specs.declared.Place.{Place}
-use Rattle.board.specs.declared.Boarded.{Boarded}
-use Rattle.board.specs.declared.Moved.{Moved}
-use Rattle.board.specs.declared.Turn.the-variants.{Refused}
+use Rattle.moves.specs.declared.Boarded.{Boarded}
+use Rattle.moves.specs.declared.Moved.{Moved}
+use Rattle.moves.specs.declared.Turn.the-variants.{Refused}
 use Rattle.board.specs.Board.{placeAt, countAt}
-use Rattle.board.specs.Enter.{enterNo, enterWith}
-use Rattle.board.specs.Turn.{turnNo, passing, dealing, turnWith}
+use Rattle.moves.specs.Enter.{enterNo, enterWith}
+use Rattle.moves.specs.Turn.{turnNo, passing, dealing, turnWith}
 use Rattle.board.proofs.Sound.{inside-at, count-le}
 use Rattle.board.proofs.Sound as board
-use Rattle.board.proofs.Refusals.{can-turn, turnNo-at}
+use Rattle.moves.proofs.Refusals.{can-turn, turnNo-at}
 use Rattle.run.specs.declared.Run.{Run}
 use Rattle.run.specs.declared.Opened.{Opened}
 use Rattle.run.specs.declared.Entered.{Entered}

@@ -8,16 +8,16 @@ use Rattle.network.specs.Widths.{widthOk, constructionOk, openNo}
 use Rattle.network.proofs.Widths.{allowed, layered, width-small}
 use Rattle.network.proofs.Rows.{placeOf-below}
 use Rattle.board.specs.declared.Board.{Board}
-use Rattle.board.specs.Answer.{valuesOf}
+use Rattle.moves.specs.Answer.{valuesOf}
 use Rattle.board.specs.Board.{placeAt}
 use Rattle.board.specs.Sound.{soundBoard}
-use Rattle.board.specs.Enter.{enterNo, enterWith}
-use Rattle.board.specs.Turn.{turnNo}
+use Rattle.moves.specs.Enter.{enterNo, enterWith}
+use Rattle.moves.specs.Turn.{turnNo}
 use Rattle.board.proofs.Lists.{and-left, and-right}
 use Rattle.board.proofs.Sound as board
-use Rattle.board.proofs.Refusals.{CanEnter, CanTurn, turn-number, enterNo-le, turnNo-le}
-use Rattle.board.proofs.Refusals as refusals
-use Rattle.board.proofs.Keeps as keeps
+use Rattle.moves.proofs.Refusals.{CanEnter, CanTurn, turn-number, enterNo-le, turnNo-le}
+use Rattle.moves.proofs.Refusals as refusals
+use Rattle.moves.proofs.Keeps as keeps
 use Rattle.run.specs.declared.Run.{Run}
 use Rattle.run.specs.Run.{fresh, depthIn, sound, withBoard, enterOf, feedsOf, turnOf}
 

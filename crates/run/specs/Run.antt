@@ -7,8 +7,8 @@ use Rattle.network.specs.Rows.{placeOf}
 use Rattle.board.specs.declared.Board.{Board}
 use Rattle.board.specs.Board.{freshBoard, placeAt}
 use Rattle.board.specs.Sound.{soundBoard}
-use Rattle.board.specs.Enter.{enterWith}
-use Rattle.board.specs.Turn.{turnWith}
+use Rattle.moves.specs.Enter.{enterWith}
+use Rattle.moves.specs.Turn.{turnWith}
 use Rattle.run.specs.declared.Run.{Run}
 use Rattle.run.specs.declared.Opened.{Opened}
 use Rattle.run.specs.declared.Entered.{Entered}

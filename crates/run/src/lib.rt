@@ -1,9 +1,9 @@
 // A run of a build, by value: opened, entered and turned. Every call answers every argument; a refused call gives the record
 // back as it was.
 use board::Board;
-use board::Moved;
 use board::Place;
-use board::Turn;
+use moves::Moved;
+use moves::Turn;
 ghost use mathlib.Core.Path.{_≡_};
 ghost use mathlib.Core.Bool.{true};
 ghost use Prim.Native.Nat.{_<_};
@@ -137,7 +137,7 @@ impl Run {
         ensures { λ r. ⌜ r ≡ enterOf self token wire ⌝ }
     {
         let board = self.board;
-        let entered = board::enter(board, self.width, token, wire);
+        let entered = moves::enter(board, self.width, token, wire);
         let after = entered.board;
         Entered {
             refusal: entered.refusal,
@@ -156,8 +156,8 @@ impl Run {
         let board = self.board;
         let width = self.width;
         let places = board.places;
-        let place = board::place_at(places, token);
-        let refusal = board::turn_refusal(token, place);
+        let place = moves::place_at(places, token);
+        let refusal = moves::turn_refusal(token, place);
         if refusal != 0 {
             return Turned {
                 answer: Turn::Refused(refusal),
@@ -167,10 +167,10 @@ impl Run {
         let depth = network::depth_of(width, self.construction);
         if place.level < depth {
             let feeds = feeds_at(width, self.construction, place);
-            let passed = board::pass(board, width, token, place, feeds);
+            let passed = moves::pass(board, width, token, place, feeds);
             return moved_on(self, passed);
         }
-        let dealt = board::deal(board, width, token, place.wire);
+        let dealt = moves::deal(board, width, token, place.wire);
         moved_on(self, dealt)
     }
 }

@@ -3,8 +3,8 @@
 ghost use mathlib.Core.Path.{_≡_};
 ghost use lib.ListN.{length};
 ghost use Rattle.run_calls.specs.Calls.{afterOpen, afterEnter, afterTurn, AfterSet};
-use board::Turn;
 use lines::words;
+use moves::Turn;
 use run::Run;
 use run_text::lists;
 

@@ -10,9 +10,9 @@ use Rattle.network.specs.Wiring.{part, bitonic, place}
 use Rattle.network.specs.Rows.{placeOf}
 use Rattle.board.specs.Board.{freshBoard, placeAt, countAt, downAt}
 use Rattle.board.specs.Sound.{all, sumOf, fewEntered, placesOk, countsBeyond, togglesBeyond, dealtSum, insideSum, addsUp, soundBoard}
-use Rattle.board.specs.Answer.{valuesOf}
-use Rattle.board.specs.Enter.{enterNo, entering, enterWith}
-use Rattle.board.specs.Turn.{turnNo, passing, dealing, turnWith}
+use Rattle.moves.specs.Answer.{valuesOf}
+use Rattle.moves.specs.Enter.{enterNo, entering, enterWith}
+use Rattle.moves.specs.Turn.{turnNo, passing, dealing, turnWith}
 use Rattle.run.specs.Run.{fresh, openOf, depthIn, sound, enterOf, feedsOf, turnOf}
 use Rattle.records.specs.Fields.{spelt, bytesIn}
 use Rattle.records.specs.Reading.{lengthOf, known, recordIn, readNo, readOf}

@@ -10,8 +10,8 @@ use borrow.Author.Tests.{leb-true}
 use Rattle.order.specs.Order.{Refusal, firstOf}
 use Rattle.network.specs.Widths.{openNo}
 use Rattle.board.specs.Sound.{all, insideSum}
-use Rattle.board.specs.Enter.{enterNo}
-use Rattle.board.specs.Turn.{turnNo}
+use Rattle.moves.specs.Enter.{enterNo}
+use Rattle.moves.specs.Turn.{turnNo}
 use Rattle.board.proofs.Lists.{and-left, and-right, cond-case}
 use Rattle.run.specs.declared.Run.{Run}
 use Rattle.run.specs.Run.{openOf}

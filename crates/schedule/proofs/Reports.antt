@@ -7,9 +7,9 @@ use Prim.Native.Nat.{ℕ, _+_, _≤_}
 use native.Mathlib.Nat.{add-zero}
 use native.Mathlib.Omega.{arith}
 use lib.ListN.{length, take-append-drop, length-append, length-drop}
-use Rattle.board.specs.declared.Turn.{Turn}
-use Rattle.board.specs.declared.Turn.the-variants.{Passed, Dealt, Refused}
-use Rattle.board.specs.Answer.{valuesOf}
+use Rattle.moves.specs.declared.Turn.{Turn}
+use Rattle.moves.specs.declared.Turn.the-variants.{Passed, Dealt, Refused}
+use Rattle.moves.specs.Answer.{valuesOf}
 use Rattle.records.specs.declared.Record.{Record}
 use Rattle.records.specs.declared.Record.the-variants.{Open, Enter, Turn as TurnRecord, Close, Number}
 use Rattle.records.specs.Fields.{placed}

@@ -12,14 +12,14 @@ use borrow.Author.Tests.{eqb-true, ltb-false, le-leb}
 use Rattle.network.specs.Widths.{openNo}
 use Rattle.board.specs.declared.Place.{Place}
 use Rattle.board.specs.declared.Board.{Board}
-use Rattle.board.specs.declared.Moved.{Moved}
+use Rattle.moves.specs.declared.Moved.{Moved}
 use Rattle.board.specs.Board.{freePlace, freshBoard, placeAt}
 use Rattle.board.specs.Sound.{insideOne, insideSum}
-use Rattle.board.specs.Enter.{at, enterNo, entering, enterWith}
-use Rattle.board.specs.Turn.{turnNo, passing, dealing, turnWith}
+use Rattle.moves.specs.Enter.{at, enterNo, entering, enterWith}
+use Rattle.moves.specs.Turn.{turnNo, passing, dealing, turnWith}
 use Rattle.board.proofs.Lists.{cond-case, sum-set, sum-replicate}
 use Rattle.board.proofs.Sound.{Shaped}
-use Rattle.board.proofs.Refusals.{can-enter, can-turn}
+use Rattle.moves.proofs.Refusals.{can-enter, can-turn}
 use Rattle.run.specs.declared.Run.{Run}
 use Rattle.run.specs.Run.{fresh, openOf, sound, enterOf, turnOf}
 use Rattle.records.specs.declared.Record.{Record}

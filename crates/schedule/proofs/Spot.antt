@@ -7,7 +7,7 @@ use Prim.Native.Nat.{ℕ}
 use native.Mathlib.Decide.{ℕ-discrete}
 use native.Mathlib.Omega.{arith}
 use borrow.Author.Tests.{eq-eqb}
-use Rattle.board.specs.Answer.{valuesOf}
+use Rattle.moves.specs.Answer.{valuesOf}
 use Rattle.run.specs.declared.Opened.{Opened}
 use Rattle.run.specs.declared.Entered.{Entered}
 use Rattle.run.specs.declared.Turned.{Turned}

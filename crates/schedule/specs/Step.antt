@@ -4,10 +4,10 @@ use Prim.Native.Nat.{ℕ}
 use mathlib.Core.List.{List, []}
 use mathlib.Core.Bool.{cond, _&&_}
 use lib.Dec.{eqb}
-use Rattle.board.specs.declared.Turn.{Turn}
-use Rattle.board.specs.declared.Turn.the-variants.{Passed, Dealt, Refused}
+use Rattle.moves.specs.declared.Turn.{Turn}
+use Rattle.moves.specs.declared.Turn.the-variants.{Passed, Dealt, Refused}
 use Rattle.board.specs.Sound.{insideSum}
-use Rattle.board.specs.Answer.{valuesOf}
+use Rattle.moves.specs.Answer.{valuesOf}
 use Rattle.run.specs.declared.Run.{Run}
 use Rattle.run.specs.Run.{fresh, openOf, enterOf, turnOf}
 use Rattle.records.specs.declared.Record.{Record}

@@ -2,14 +2,14 @@
 ghost use mathlib.Core.Path.{_≡_};
 ghost use mathlib.Core.Bool.{cond};
 ghost use lib.Dec.{eqb};
-ghost use Rattle.board.specs.Answer.{valuesOf};
+ghost use Rattle.moves.specs.Answer.{valuesOf};
 ghost use Rattle.records.specs.Writing.{bytesOf};
 ghost use Rattle.schedule.specs.declared.Outcome.the-variants.{Accepted, Refused};
 ghost use Rattle.schedule.specs.Step.{reportOf, closeNo, placeNo};
 ghost use Rattle.schedule.specs.Schedule.{recordAt};
 ghost use Rattle.schedule.specs.Pass.{numberOf, RoomFor, Noted, Passable, PassIs};
 ghost use Rattle.schedule.specs.Whole.{Ran};
-use board::Turn;
+use moves::Turn;
 use records::Read;
 use records::Record;
 use run::Run;

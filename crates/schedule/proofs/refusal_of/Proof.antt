@@ -1,5 +1,5 @@
 -- `schedule::refusal_of` meets its contract, by the answer's case. Assumes nothing.
-use Rattle.board.specs.Answer.{valuesOf}
+use Rattle.moves.specs.Answer.{valuesOf}
 use borrow.Author.Needs.{needs}
 use Rattle.schedule.proofs.refusal_of.Statement.{statement}
 use Rattle.schedule.proofs.refusal_of.Tie as tie
