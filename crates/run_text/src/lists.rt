@@ -1,7 +1,11 @@
 // The lists of a run record, from text: entries with commas between them, their indexes within the record and strictly
 // rising; `-` is no entry. A list is exit counts (c), toggles that are down (t) or places of tokens (p).
 ghost use mathlib.Core.Path.{_≡_};
-ghost use Prim.Native.Nat.{_≤_};
+ghost use Prim.Native.Nat.{_+_};
+ghost use mathlib.Core.Bool.{false};
+ghost use Rattle.lines.specs.Marked.{partAt};
+ghost use Rattle.run_text.specs.Entries.{indexIn, isIndex, isKeyed, isCount, isToggle, isSeat, isPlace, isEntry, nextOf, IndexIs, EntryRead};
+ghost use Rattle.run_text.specs.Lists.{isList, ListRead};
 use board::Board;
 use board::Place;
 use lines::numbers;
@@ -20,55 +24,61 @@ struct Stored {
 }
 
 fn refused(board: Board) -> Stored
-    ensures { λ r. ⌜ r .board .entered ≡ board .entered ⌝ }
+    ensures { λ r. ⌜ EntryRead false 0 (r .next) (board .entered) (r .board .entered) ⌝ }
 {
     Stored { next: 0, board }
 }
 
-// The index that a text spells, from `least` on; `below` where it spells none below that.
-fn index(text: &[u8], least: usize, below: usize) -> usize
-    ensures { λ r. ⌜ r ≤ below ⌝ }
+// The index that a text spells, from `least` on; `size` where it spells none below that.
+fn index(text: &[u8], least: usize, size: usize) -> usize
+    ensures { λ r. ⌜ IndexIs (isIndex (now (text .entry)) least size) (indexIn (now (text .entry))) size r ⌝ }
 {
     let read = numbers::decimal(text, 65_535);
     let at = read.value as usize;
-    if !read.ok | (at < least) {
-        return below;
+    if read.ok & (least <= at) & (at < size) {
+        return at;
     }
-    if at < below { at } else { below }
+    size
+}
+
+// The index in front of `=`, where one other part is behind it.
+fn key(entry: &[u8], least: usize, size: usize) -> usize
+    ensures { λ r. ⌜ IndexIs (isKeyed (now (entry .entry)) least size) (indexIn (partAt 61 (now (entry .entry)) 0)) size r ⌝ }
+{
+    if parts::count(entry, b'=') != 2 {
+        return size;
+    }
+    index(parts::part(entry, b'=', 0), least, size)
 }
 
 // `i=n`
 fn count(entry: &[u8], least: usize, mut board: Board) -> Stored
-    ensures { λ r. ⌜ r .board .entered ≡ board .entered ⌝ }
+    ensures { λ r. ⌜ EntryRead (isCount (now (entry .entry)) least) (nextOf (now (entry .entry))) (r .next) (board .entered) (r .board .entered) ⌝ }
 {
-    let at = index(parts::part(entry, b'=', 0), least, 64);
+    let at = key(entry, least, 64);
     let dealt = numbers::decimal(parts::part(entry, b'=', 1), 4_294_967_295);
-    if !dealt.ok | (parts::count(entry, b'=') != 2) {
-        return refused(board);
-    }
     if at == 64 {
         return refused(board);
     }
-    board.counts[at] = dealt.value as u32;
-    Stored {
-        next: at + 1,
-        board,
+    if !dealt.ok {
+        return refused(board);
     }
+    board.counts[at] = dealt.value as u32;
+    let next = at + 1;
+    Stored { next, board }
 }
 
 // `i`
 fn toggle(entry: &[u8], least: usize, mut board: Board) -> Stored
-    ensures { λ r. ⌜ r .board .entered ≡ board .entered ⌝ }
+    ensures { λ r. ⌜ EntryRead (isToggle (now (entry .entry)) least) (nextOf (now (entry .entry))) (r .next) (board .entered) (r .board .entered) ⌝ }
 {
     let at = index(entry, least, 1152);
     if at == 1152 {
         return refused(board);
     }
     board.toggles[at] = true;
-    Stored {
-        next: at + 1,
-        board,
-    }
+    let next = at + 1;
+    Stored { next, board }
 }
 
 // The place that a text spells as `INSIDE/LEVEL/WIRE`; `ok` says whether it does.
@@ -77,7 +87,9 @@ struct Seated {
     place: Place,
 }
 
-fn seat(text: &[u8]) -> Seated {
+fn seat(text: &[u8]) -> Seated
+    ensures { λ r. ⌜ r .ok ≡ isSeat (now (text .entry)) ⌝ }
+{
     let inside = numbers::decimal(parts::part(text, b'/', 0), 1);
     let level = numbers::decimal(parts::part(text, b'/', 1), 65_535);
     let wire = numbers::decimal(parts::part(text, b'/', 2), 65_535);
@@ -93,26 +105,24 @@ fn seat(text: &[u8]) -> Seated {
 
 // `t=INSIDE/LEVEL/WIRE`
 fn place(entry: &[u8], least: usize, mut board: Board) -> Stored
-    ensures { λ r. ⌜ r .board .entered ≡ board .entered ⌝ }
+    ensures { λ r. ⌜ EntryRead (isPlace (now (entry .entry)) least) (nextOf (now (entry .entry))) (r .next) (board .entered) (r .board .entered) ⌝ }
 {
-    let at = index(parts::part(entry, b'=', 0), least, 256);
+    let at = key(entry, least, 256);
     let seat = seat(parts::part(entry, b'=', 1));
-    if !seat.ok | (parts::count(entry, b'=') != 2) {
+    if at == 256 {
         return refused(board);
     }
-    if at == 256 {
+    if !seat.ok {
         return refused(board);
     }
     let place = seat.place;
     board.places[at] = place;
-    Stored {
-        next: at + 1,
-        board,
-    }
+    let next = at + 1;
+    Stored { next, board }
 }
 
 fn entry(list: u8, text: &[u8], least: usize, board: Board) -> Stored
-    ensures { λ r. ⌜ r .board .entered ≡ board .entered ⌝ }
+    ensures { λ r. ⌜ EntryRead (isEntry list (now (text .entry)) least) (nextOf (now (text .entry))) (r .next) (board .entered) (r .board .entered) ⌝ }
 {
     match list {
         b'c' => count(text, least, board),
@@ -123,7 +133,7 @@ fn entry(list: u8, text: &[u8], least: usize, board: Board) -> Stored
 
 // Reads a list into the board.
 pub fn read(list: u8, text: &[u8], before: Board) -> Listed
-    ensures { λ r. ⌜ r .board .entered ≡ before .entered ⌝ }
+    ensures { λ r. ⌜ ListRead list (now (text .entry)) (r .ok) (before .entered) (r .board .entered) ⌝ }
 {
     let mut board = before;
     if check::same(text, b"-") {
@@ -144,7 +154,9 @@ pub fn read(list: u8, text: &[u8], before: Board) -> Listed
     Listed { ok: true, board }
 }
 
-pub fn is_list(list: u8, text: &[u8]) -> bool {
+pub fn is_list(list: u8, text: &[u8]) -> bool
+    ensures { λ r. ⌜ r ≡ isList list (now (text .entry)) ⌝ }
+{
     let read = read(list, text, board::fresh());
     read.ok
 }

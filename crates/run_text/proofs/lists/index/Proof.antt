@@ -1,0 +1,17 @@
+-- `run_text::lists::index` meets its contract: its test is the rule's. Assumes nothing.
+use borrow.Author.Needs.{needs}
+use Rattle.run_text.proofs.Entries.{index-taken, index-left}
+use Rattle.run_text.proofs.lists.index.Statement.{statement}
+use Rattle.run_text.proofs.lists.index.Tie as tie
+
+decimal-requires : tie.Need-decimal-requires
+decimal-requires c κs = search needs
+
+returns : tie.Need-returns
+returns c = index-taken _ _ (c .before .before .decimal .ensures) (c .if1 .taken)
+
+returns-2 : tie.Need-returns-2
+returns-2 c = index-left _ _ (c .before .before .decimal .ensures) (c .if1 .left)
+
+pub index-spec : {M : Type 1} → statement M
+index-spec = tie.close (tie.spec decimal-requires returns returns-2)
