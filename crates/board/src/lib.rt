@@ -55,8 +55,10 @@ pub fn fresh() -> Board
 fn place_ok(width: u16, depth: u16, p: Place) -> bool
     ensures { λ r. ⌜ r ≡ placeOk width depth p ⌝ }
 {
-    (p.inside & (p.level <= depth) & (p.wire < width))
-        | (!p.inside & (p.level == 0) & (p.wire == 0))
+    if p.inside {
+        return (p.level <= depth) & (p.wire < width);
+    }
+    (p.level == 0) & (p.wire == 0)
 }
 
 fn places_ok(places: [Place; 256], width: u16, depth: u16) -> bool
