@@ -2,18 +2,21 @@
 -- number dealt. In order: the run and its reports; the course; a record. Assumes nothing.
 use Prim.Native.Nat.{ℕ}
 use mathlib.Core.Path.{_≡_, refl}
-use mathlib.Core.Bool.{Bool, true, false, cond}
+use mathlib.Core.Bool.{not}
 use mathlib.Core.List.{List, [], _∷_, _++_, append-nil}
 use native.Mathlib.Omega.{arith}
-use borrow.Author.Tests.{eqb-true, eq-eqb}
+use lib.Dec.{eqb}
+use borrow.Author.Tests.{not-false, eqb-true, eq-eqb}
+use Rattle.order.specs.Order.{firstOf}
+use Rattle.order.proofs.Order.{cleared}
 use Rattle.network.specs.Widths.{openNo}
 use Rattle.board.specs.Sound.{insideSum}
-use Rattle.board.proofs.Lists.{and-left}
 use Rattle.run.specs.declared.Run.{Run}
 use Rattle.run.specs.Run.{fresh, openOf, enterOf, turnOf}
 use Rattle.records.specs.declared.Record.{Record}
 use Rattle.records.specs.declared.Record.the-variants.{Open, Enter, Turn, Close, Number}
-use Rattle.schedule.specs.Step.{Course, course, atStart, Step, closeNo, placeNo, servedOf, stepOf}
+use Rattle.schedule.specs.Course.{Course, course, atStart, Step}
+use Rattle.schedule.specs.Step.{closeNo, phaseNo, placeNo, servedOf, stepOf}
 use Rattle.promise.specs.History.{Call, enter, turn, callOf, callsOf, history}
 use Rattle.filed.specs.Calls.{callIn}
 use Rattle.filed.specs.Filed.{reportsOf}
@@ -30,14 +33,10 @@ reported-open : (w c : ℕ) → openNo w c ≡ 0 → Reported (openOf w c .run) 
 unfolding openOf fresh history callsOf reportsOf
 reported-open w c h = let z = eq-eqb _ 0 h in rw z (record { allowed = h; run = rw z; reports = refl })
 
-zero-test : (b : Bool) → _≡_ {A = ℕ} (cond b 0 15) 0 → b ≡ true
-zero-test true h = refl
-zero-test false h = absurd (omega arith)
-
 -- a close that is not refused finds none inside
 close-empty : (x : Run) (e : ℕ) → closeNo x e ≡ 0 → insideSum (x .board) ≡ 0
 unfolding closeNo
-close-empty x e h = eqb-true _ 0 (and-left _ _ (zero-test _ h))
+close-empty x e h = eqb-true _ 0 (not-false _ (cleared (not (eqb (insideSum (x .board)) 0)) 14 _ h .fails))
 
 -- ---- the course
 pub data Follows : Course → List Call → List ℕ → Type 0 where
@@ -52,7 +51,7 @@ module _ (calls : List Call) (done : List ℕ) where
   Onward made y = y .refusal ≡ 0 → Follows (y .course) (calls ++ made) (done ++ y .report)
 
 onward-open : (w c : ℕ) → Onward [] [] [] (stepOf atStart (Open w c))
-unfolding placeNo servedOf stepOf atStart openOf Onward
+unfolding firstOf placeNo phaseNo servedOf stepOf atStart openOf Onward
 onward-open w c h = underway (reported-open w c h)
 
 module _ {x : Run} {calls : List Call} {done : List ℕ} (r : Reported x calls done) where
@@ -68,20 +67,20 @@ module _ {x : Run} {calls : List Call} {done : List ℕ} (r : Reported x calls d
       }
 
   onward-enter : (t v : ℕ) → Onward calls done (enter t v ∷ []) (stepOf (course 1 x) (Enter t v))
-  unfolding placeNo servedOf stepOf callOf enterOf reportsOf Onward
+  unfolding firstOf placeNo phaseNo servedOf stepOf callOf enterOf reportsOf Onward
   onward-enter t v h = underway (reported-call (enter t v) refl refl)
 
   onward-turn : (t : ℕ) → Onward calls done (turn t ∷ []) (stepOf (course 1 x) (Turn t))
-  unfolding placeNo servedOf stepOf callOf turnOf Onward
+  unfolding firstOf placeNo phaseNo servedOf stepOf callOf turnOf Onward
   onward-turn t h = rw reports-dealOf (underway (reported-call (turn t) refl refl))
 
   onward-close : (e : ℕ) → Onward calls done [] (stepOf (course 1 x) (Close e))
-  unfolding placeNo servedOf stepOf Onward
+  unfolding firstOf placeNo phaseNo servedOf stepOf Onward
   onward-close e h = rw (append-nil calls, append-nil done) (closed r (close-empty x e h))
 
 pub follows-step : {x : Course} {calls : List Call} {done : List ℕ} → Follows x calls done → (r : Record) → stepOf x r .refusal ≡ 0
     → Follows (stepOf x r .course) (calls ++ callIn r) (done ++ stepOf x r .report)
-unfolding placeNo servedOf stepOf atStart Onward callIn
+unfolding firstOf placeNo phaseNo servedOf stepOf atStart Onward callIn
 follows-step unopened (Open w c) h = onward-open w c h
 follows-step unopened (Enter t v) h = absurd (omega arith)
 follows-step unopened (Turn t) h = absurd (omega arith)

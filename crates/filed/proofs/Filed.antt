@@ -15,7 +15,7 @@ use Rattle.board.proofs.Lists.{cond-case}
 use Rattle.run.specs.declared.Run.{Run}
 use Rattle.schedule.specs.declared.Outcome.{Outcome}
 use Rattle.schedule.specs.declared.Outcome.the-variants.{Accepted, Refused}
-use Rattle.schedule.specs.Step.{Course, course, atStart, Step}
+use Rattle.schedule.specs.Course.{Course, course, atStart, Step}
 use Rattle.schedule.specs.Schedule.{Told, stopped, accepted, tell}
 use Rattle.schedule.proofs.Told.{Fault, Stepped, told-from}
 use Rattle.schedule.specs.Whole.{settle, runOf, afterRun, outputOf, Values, valuesOf}

@@ -10,7 +10,7 @@ use lib.Dec.{ltb, leb}
 use borrow.Author.Tests.{leb-true, le-leb}
 use Rattle.schedule.specs.declared.Outcome.{Outcome}
 use Rattle.schedule.specs.declared.Outcome.the-variants.{Accepted, Refused}
-use Rattle.schedule.specs.Step.{Course, atStart}
+use Rattle.schedule.specs.Course.{Course, atStart}
 use Rattle.schedule.specs.Schedule.{Told, stopped, accepted, tell}
 use Rattle.schedule.proofs.Told.{Fault, told-from}
 use Rattle.schedule.specs.Whole.{settle, runOf}

@@ -2,13 +2,13 @@
 -- sound board's calls give. Assumes nothing.
 use mathlib.Core.Path.{_≡_, refl, sym}
 use mathlib.Core.List.{[], _∷_}
-use mathlib.Core.Bool.{Bool, true, false, not, cond}
+use mathlib.Core.Bool.{Bool, true, false, not}
 use Prim.Native.Nat.{ℕ, _<_, _≤_}
 use native.Mathlib.Omega.{arith}
-use lib.Dec.{eqb, leb, ltb, lit≤}
+use lib.Dec.{eqb, leb, ltb}
 use borrow.Author.Tests.{eq-eqb, ne-eqb, not-false, ltb-false, leb-false, eqb-true, eqb-false}
 use Rattle.order.specs.Order.{_⟶_, firstOf}
-use Rattle.order.proofs.Order.{cleared}
+use Rattle.order.proofs.Order.{cleared, atMost, firstOf-le}
 use Rattle.board.specs.declared.Place.{Place}
 use Rattle.board.specs.declared.Board.{Board}
 use Rattle.moves.specs.declared.Boarded.{Boarded}
@@ -87,15 +87,13 @@ turn-number good w d x t feeds exit =
     (λ _. refl)
 
 -- ---- a sound board is never refused by 9
-cond-le : (b : Bool) {m n k : ℕ} → m ≤ k → n ≤ k → cond b m n ≤ k
-cond-le true p q = p
-cond-le false p q = q
-
 pub enterNo-le : (w : ℕ) (x : Board) (t v : ℕ) → enterNo true w x t v ≤ 7
-unfolding enterNo firstOf
+unfolding enterNo firstOf atMost
 enterNo-le w x t v =
-    cond-le (ltb 255 t) (lit≤ tt) (cond-le (leb w v) (lit≤ tt) (cond-le (placeAt x t .inside) (lit≤ tt) (cond-le (eqb (x .entered) 1000000) (lit≤ tt) (lit≤ tt))))
+    firstOf-le 7
+    ((ltb 255 t ⟶ 4) ∷ (leb w v ⟶ 5) ∷ (placeAt x t .inside ⟶ 6) ∷ (eqb (x .entered) 1000000 ⟶ 7) ∷ [])
+    refl
 
 pub turnNo-le : (x : Board) (t : ℕ) → turnNo true x t ≤ 8
-unfolding turnNo firstOf
-turnNo-le x t = cond-le (ltb 255 t) (lit≤ tt) (cond-le (not (placeAt x t .inside)) (lit≤ tt) (lit≤ tt))
+unfolding turnNo firstOf atMost
+turnNo-le x t = firstOf-le 8 ((ltb 255 t ⟶ 4) ∷ (not (placeAt x t .inside) ⟶ 8) ∷ []) refl

@@ -1,11 +1,12 @@
 -- Laws of `firstOf`. In order: a number is given exactly when its condition holds and none before it does; the set that
--- `search` closes a refusal with; what is known where nothing is refused. Assumes nothing.
-use Prim.Native.Nat.{ℕ, suc}
+-- `search` closes a refusal with; what is known where nothing is refused; how large a number is. Assumes nothing.
+use Prim.Native.Nat.{ℕ, suc, _≤_}
 use mathlib.Core.List.{List, [], _∷_}
 use mathlib.Core.Bool.{Bool, true, false, not, cond}
 use mathlib.Core.Path.{_≡_, refl}
 use native.Mathlib.Omega.{arith}
-use borrow.Author.Tests.{lt-ltb, le-ltb, le-leb, lt-leb, eq-eqb, ne-eqb}
+use lib.Dec.{leb}
+use borrow.Author.Tests.{leb-true, lt-ltb, le-ltb, le-leb, lt-leb, eq-eqb, ne-eqb}
 use Rattle.order.specs.Order.{Refusal, _⟶_, firstOf}
 
 -- the first whose condition holds has the number n
@@ -56,3 +57,19 @@ pub cleared : (b : Bool) (n : ℕ) (rs : List Refusal) → firstOf ((b ⟶ suc n
 unfolding firstOf
 cleared true n rs h = absurd (omega arith)
 cleared false n rs h = record { fails = refl; then = h }
+
+-- ---- a number is no larger than the largest of the list
+unfoldable pub atMost : ℕ → List Refusal → Bool
+atMost n [] = true
+atMost n (r ∷ rs) = cond (leb (r .number) n) (atMost n rs) false
+
+head-le : (b c : Bool) (n k m : ℕ) (rs : List Refusal) → leb k n ≡ c → cond c (atMost n rs) false ≡ true → (atMost n rs ≡ true → m ≤ n)
+    → cond b k m ≤ n
+head-le true true n k m rs e h f = leb-true k n e
+head-le false true n k m rs e h f = f h
+head-le b false n k m rs e h f = let never : _≡_ {A = ℕ} 0 1 = cc in absurd (omega arith)
+
+pub firstOf-le : (n : ℕ) (rs : List Refusal) → atMost n rs ≡ true → firstOf rs ≤ n
+unfolding firstOf atMost
+firstOf-le n [] h = omega arith
+firstOf-le n (r ∷ rs) h = head-le (r .when) (leb (r .number) n) n (r .number) (firstOf rs) rs refl h (firstOf-le n rs)

@@ -17,19 +17,20 @@ use Rattle.run.specs.Run.{fresh, openOf, depthIn, sound, enterOf, feedsOf, turn
 use Rattle.records.specs.Fields.{spelt, bytesIn}
 use Rattle.records.specs.Reading.{lengthOf, known, recordIn, readNo, readOf}
 use Rattle.records.specs.Writing.{sizeOf, bytesOf}
-use Rattle.schedule.specs.Step.{atStart, reportOf, closeNo, placeNo, servedOf, stepOf}
+use Rattle.schedule.specs.Course.{atStart}
+use Rattle.schedule.specs.Step.{reportOf, closeNo, phaseNo, placeNo, servedOf, stepOf}
 use Rattle.schedule.specs.Schedule.{recordAt, onRead, tellFrom, tell}
 use Rattle.schedule.specs.Whole.{settle, runOf}
 use Rattle.schedule.specs.Case.{caseBytes}
 
 -- the document's case is accepted: BITONIC[2], two entries, 24 bytes of reports
 pub case-outcome : runOf caseBytes 24 ≡ Accepted 2 1 2 24
-unfolding firstOf widthOk constructionOk openNo levels depthOf part bitonic place placeOf freshBoard placeAt countAt downAt all sumOf fewEntered placesOk countsBeyond togglesBeyond dealtSum insideSum addsUp soundBoard valuesOf enterNo entering enterWith turnNo passing dealing turnWith fresh openOf depthIn sound enterOf feedsOf turnOf spelt bytesIn lengthOf known recordIn readNo readOf sizeOf bytesOf atStart reportOf closeNo placeNo servedOf stepOf recordAt onRead tellFrom tell settle runOf caseBytes
+unfolding firstOf widthOk constructionOk openNo levels depthOf part bitonic place placeOf freshBoard placeAt countAt downAt all sumOf fewEntered placesOk countsBeyond togglesBeyond dealtSum insideSum addsUp soundBoard valuesOf enterNo entering enterWith turnNo passing dealing turnWith fresh openOf depthIn sound enterOf feedsOf turnOf spelt bytesIn lengthOf known recordIn readNo readOf sizeOf bytesOf atStart reportOf closeNo phaseNo placeNo servedOf stepOf recordAt onRead tellFrom tell settle runOf caseBytes
 case-outcome = refl
 
 -- it deals 1 to token 5 at exit 1, then 0 to token 9 at exit 0
 pub case-reports : tell caseBytes .reports ≡ bytesOf (Number 5 1 1) ++ bytesOf (Number 9 0 0)
-unfolding firstOf widthOk constructionOk openNo levels depthOf part bitonic place placeOf freshBoard placeAt countAt downAt all sumOf fewEntered placesOk countsBeyond togglesBeyond dealtSum insideSum addsUp soundBoard valuesOf enterNo entering enterWith turnNo passing dealing turnWith fresh openOf depthIn sound enterOf feedsOf turnOf spelt bytesIn lengthOf known recordIn readNo readOf sizeOf bytesOf atStart reportOf closeNo placeNo servedOf stepOf recordAt onRead tellFrom tell settle runOf caseBytes
+unfolding firstOf widthOk constructionOk openNo levels depthOf part bitonic place placeOf freshBoard placeAt countAt downAt all sumOf fewEntered placesOk countsBeyond togglesBeyond dealtSum insideSum addsUp soundBoard valuesOf enterNo entering enterWith turnNo passing dealing turnWith fresh openOf depthIn sound enterOf feedsOf turnOf spelt bytesIn lengthOf known recordIn readNo readOf sizeOf bytesOf atStart reportOf closeNo phaseNo placeNo servedOf stepOf recordAt onRead tellFrom tell settle runOf caseBytes
 case-reports = refl
 
 pub empty-schedule : (room : ℕ) → runOf [] room ≡ Refused 14 0 0

@@ -14,7 +14,8 @@ use Rattle.records.specs.declared.Read.the-variants.{Got, Refused as Unread}
 use Rattle.order.specs.Order.{over}
 use Rattle.schedule.specs.declared.Outcome.{Outcome}
 use Rattle.schedule.specs.declared.Outcome.the-variants.{Accepted, Refused}
-use Rattle.schedule.specs.Step.{Course, atStart, step, placeNo, stepOf}
+use Rattle.schedule.specs.Course.{Course, atStart, step}
+use Rattle.schedule.specs.Step.{placeNo, stepOf}
 use Rattle.schedule.specs.Schedule.{Told, stopped, accepted, recordAt, tellFrom, tell}
 use Rattle.schedule.specs.Pass.{numberOf, RoomFor, Noted, Fits, Passable, PassIs}
 use Rattle.schedule.proofs.Ready.{Ready, ready-start, ready-step}

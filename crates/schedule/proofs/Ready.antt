@@ -1,17 +1,20 @@
 -- Through a schedule the run stays sound from the open to the close, so that no record has to judge it. Assumes nothing.
-use mathlib.Core.Path.{_≡_, refl}
-use mathlib.Core.Bool.{Bool, true, false, cond}
+use mathlib.Core.Path.{_≡_}
+use mathlib.Core.Bool.{true, not}
+use mathlib.Core.List.{[]}
 use Prim.Native.Nat.{ℕ}
 use native.Mathlib.Omega.{arith}
 use lib.Dec.{eqb}
-use borrow.Author.Tests.{eqb-true, eq-eqb}
+use borrow.Author.Tests.{not-false, eqb-true, eq-eqb}
+use Rattle.order.proofs.Order.{cleared}
 use Rattle.board.proofs.Lists.{cond-case}
 use Rattle.run.specs.declared.Run.{Run}
 use Rattle.run.specs.Run.{fresh, openOf, sound}
 use Rattle.run.proofs.Keeps.{Shaped, shaped-fresh, shaped-enter, shaped-turn, fresh-sound, enter-keeps, turn-keeps}
 use Rattle.records.specs.declared.Record.{Record}
 use Rattle.records.specs.declared.Record.the-variants.{Open, Enter, Turn, Close, Number}
-use Rattle.schedule.specs.Step.{Course, course, atStart, Step, placeNo, servedOf, stepOf}
+use Rattle.schedule.specs.Course.{Course, course, atStart, Step}
+use Rattle.schedule.specs.Step.{phaseNo, placeNo, servedOf, stepOf}
 
 pub record Ready (x : Course) : Type 0 where
   pub shaped : Shaped (x .run)
@@ -34,21 +37,18 @@ unfolding openOf
 ready-open w c h = rw (eq-eqb _ 0 h) (ready-sound (fresh w c) (shaped-fresh w c) (fresh-sound w c h))
 
 -- a record in its place finds its phase
-pub its-phase : (p q : ℕ) → _≡_ {A = ℕ} (cond (eqb p q) 0 14) 0 → p ≡ q
-its-phase p q h = eqb-true p q (zero-test _ h)
-  where
-    zero-test : (b : Bool) → _≡_ {A = ℕ} (cond b 0 14) 0 → b ≡ true
-    zero-test true h = refl
-    zero-test false h = absurd (omega arith)
+pub its-phase : (own p : ℕ) → phaseNo own p ≡ 0 → p ≡ own
+unfolding phaseNo
+its-phase own p h = eqb-true p own (not-false _ (cleared (not (eqb p own)) 13 [] h .fails))
 
 module _ (x : Course) (ready : Ready x) where
   ready-served : (r : Record) → placeNo (x .phase) r ≡ 0 → servedOf (x .run) r .refusal ≡ 0 → Ready (servedOf (x .run) r .course)
   unfolding placeNo servedOf
   ready-served (Open w c) p h = ready-open w c h
   ready-served (Enter t v) p h =
-      ready-sound _ (shaped-enter (x .run) (ready .shaped) t v) (enter-keeps (x .run) t v (ready .shaped) (ready .underway (its-phase _ 1 p)))
+      ready-sound _ (shaped-enter (x .run) (ready .shaped) t v) (enter-keeps (x .run) t v (ready .shaped) (ready .underway (its-phase 1 _ p)))
   ready-served (Turn t) p h =
-      ready-sound _ (shaped-turn (x .run) (ready .shaped) t) (turn-keeps (x .run) t (ready .shaped) (ready .underway (its-phase _ 1 p)))
+      ready-sound _ (shaped-turn (x .run) (ready .shaped) t) (turn-keeps (x .run) t (ready .shaped) (ready .underway (its-phase 1 _ p)))
   ready-served (Close e) p h = ready-idle 2 (x .run) (λ e. omega arith) (ready .shaped)
   ready-served (Number t v n) p h = absurd (omega arith)
 

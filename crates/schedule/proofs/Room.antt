@@ -26,7 +26,8 @@ use Rattle.records.specs.declared.Record.{Record}
 use Rattle.records.specs.declared.Record.the-variants.{Open, Enter, Turn, Close, Number}
 use Rattle.schedule.specs.declared.Outcome.{Outcome}
 use Rattle.schedule.specs.declared.Outcome.the-variants.{Accepted, Refused}
-use Rattle.schedule.specs.Step.{Course, atStart, Step, reportOf, placeNo, servedOf, stepOf}
+use Rattle.schedule.specs.Course.{Course, atStart, Step}
+use Rattle.schedule.specs.Step.{reportOf, placeNo, servedOf, stepOf}
 use Rattle.schedule.specs.Schedule.{Told, tell}
 use Rattle.schedule.specs.Whole.{settle, runOf, valuesOf}
 use Rattle.schedule.specs.Room.{Room}

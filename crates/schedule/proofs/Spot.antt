@@ -15,7 +15,8 @@ use Rattle.run.specs.Run.{sound, openOf, enterOf, turnOf}
 use Rattle.records.specs.declared.Record.{Record}
 use Rattle.records.specs.declared.Record.the-variants.{Open, Enter, Turn, Close, Number}
 use Rattle.records.specs.declared.Read.the-variants.{Got}
-use Rattle.schedule.specs.Step.{Course, course, step, reportOf, closeNo, placeNo, servedOf, stepOf}
+use Rattle.schedule.specs.Course.{Course, course, step}
+use Rattle.schedule.specs.Step.{reportOf, closeNo, placeNo, servedOf, stepOf}
 use Rattle.schedule.specs.Schedule.{recordAt}
 use Rattle.schedule.specs.Pass.{RoomFor, Noted}
 use Rattle.schedule.proofs.Ready.{its-phase}
@@ -69,7 +70,7 @@ module _ (c : Spot) where
   pub gives-enter : {t v : ℕ} {y : Entered} → c .item ≡ Enter t v → y ≡ enterOf (c .x .run) t v
       → Gives (y .refusal) (course (c .x .phase) (y .run)) (c .filled) (c .out)
   unfolding placeNo servedOf
-  gives-enter e f = silent e (rw (f, its-phase (c .x .phase) 1 (rw e at (c .right))))
+  gives-enter e f = silent e (rw (f, its-phase 1 (c .x .phase) (rw e at (c .right))))
 
   pub gives-close : {m k : ℕ} → c .item ≡ Close m → k ≡ closeNo (c .x .run) m → Gives k (course 2 (c .x .run)) (c .filled) (c .out)
   unfolding servedOf
@@ -81,16 +82,16 @@ module _ (c : Spot) where
 
   pub underway-enter : {t v : ℕ} → c .item ≡ Enter t v → sound (c .x .run) ≡ true
   unfolding placeNo
-  underway-enter e = c .going .ready .underway (its-phase (c .x .phase) 1 (rw e at (c .right)))
+  underway-enter e = c .going .ready .underway (its-phase 1 (c .x .phase) (rw e at (c .right)))
 
   pub underway-turn : {t : ℕ} → c .item ≡ Turn t → sound (c .x .run) ≡ true
   unfolding placeNo
-  underway-turn e = c .going .ready .underway (its-phase (c .x .phase) 1 (rw e at (c .right)))
+  underway-turn e = c .going .ready .underway (its-phase 1 (c .x .phase) (rw e at (c .right)))
 
   module _ {t : ℕ} {y : Turned} (e : c .item ≡ Turn t) (f : y ≡ turnOf (c .x .run) t) where
     turned : Stepped (c .s) (c .x) (c .at) (c .len) (step (valuesOf (y .answer) .refusal) (reportOf t (y .answer)) (course (c .x .phase) (y .run)))
     unfolding placeNo servedOf
-    turned = spot-step e (rw (f, its-phase (c .x .phase) 1 (rw e at (c .right))))
+    turned = spot-step e (rw (f, its-phase 1 (c .x .phase) (rw e at (c .right))))
 
     -- a turn that is refused reports nothing
     pub room-turn : RoomFor (reportOf t (y .answer)) (c .w) (c .filled) (c .out)

@@ -16,7 +16,8 @@ use Rattle.records.specs.declared.Read.the-variants.{Got, Refused as Unread}
 use Rattle.records.specs.Reading.{readNo, readOf}
 use Rattle.records.proofs.Reading.{read-length}
 use Rattle.schedule.specs.declared.Outcome.the-variants.{Accepted}
-use Rattle.schedule.specs.Step.{Course, Step, stepOf}
+use Rattle.schedule.specs.Course.{Course, Step}
+use Rattle.schedule.specs.Step.{stepOf}
 use Rattle.schedule.specs.Schedule.{Told, stopped, accepted, recordAt, onRead, tellFrom, tell}
 use Rattle.schedule.specs.Pass.{Fits}
 use Rattle.schedule.proofs.Faults.{readNo-le, refusal-le}

@@ -1,3 +1,4 @@
+pub mod Course
 pub mod Step
 pub mod Schedule
 pub mod Whole

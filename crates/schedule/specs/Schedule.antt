@@ -10,7 +10,8 @@ use Rattle.records.specs.declared.Read.the-variants.{Got, Refused as Unread}
 use Rattle.records.specs.Reading.{readOf}
 use Rattle.schedule.specs.declared.Outcome.{Outcome}
 use Rattle.schedule.specs.declared.Outcome.the-variants.{Accepted, Refused}
-use Rattle.schedule.specs.Step.{Course, atStart, stepOf}
+use Rattle.schedule.specs.Course.{Course, atStart}
+use Rattle.schedule.specs.Step.{stepOf}
 
 -- what a schedule gives: the outcome, and the bytes of its reports
 pub record Told : Type 0 where

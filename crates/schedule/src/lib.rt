@@ -1,11 +1,9 @@
 // Running a schedule over lent bytes: the whole is judged first, then the numbers dealt are written to the lent output.
 ghost use mathlib.Core.Path.{_≡_};
-ghost use mathlib.Core.Bool.{cond};
-ghost use lib.Dec.{eqb};
 ghost use Rattle.moves.specs.Answer.{valuesOf};
 ghost use Rattle.records.specs.Writing.{bytesOf};
 ghost use Rattle.schedule.specs.declared.Outcome.the-variants.{Accepted, Refused};
-ghost use Rattle.schedule.specs.Step.{reportOf, closeNo, placeNo};
+ghost use Rattle.schedule.specs.Step.{reportOf, closeNo, phaseNo, placeNo};
 ghost use Rattle.schedule.specs.Schedule.{recordAt};
 ghost use Rattle.schedule.specs.Pass.{numberOf, RoomFor, Noted, Passable, PassIs};
 ghost use Rattle.schedule.specs.Whole.{Ran};
@@ -33,7 +31,7 @@ pub enum Outcome {
 // ---- a record
 // 14 out of the phase that a record belongs to, or 0.
 fn out_of_phase(phase: u8, own: u8) -> u8
-    ensures { λ r. ⌜ r ≡ cond (eqb phase own) 0 14 ⌝ }
+    ensures { λ r. ⌜ r ≡ phaseNo own phase ⌝ }
 {
     if phase == own { 0 } else { 14 }
 }

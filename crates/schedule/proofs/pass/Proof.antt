@@ -7,7 +7,7 @@ use mathlib.Core.Logic.{⊎-elim}
 use native.Mathlib.Omega.{arith}
 use borrow.Author.Needs.{needs}
 use lib.ListN.{length}
-use Rattle.schedule.specs.Step.{course, atStart}
+use Rattle.schedule.specs.Course.{course, atStart}
 use Rattle.order.specs.Order.{firstOf}
 use Rattle.network.specs.Widths.{widthOk, openNo}
 use Rattle.run.specs.Run.{openOf}
