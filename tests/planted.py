@@ -15,10 +15,14 @@ sys.dont_write_bytecode = True
 HERE = Path(__file__).resolve().parent
 sys.path[0] = str(HERE)
 
-from independent import comparisons, makers
+from independent import comparisons, makers, panel_comparisons
 from independent.play import lines_of
 
 SEED, FILES, LINES, PLAYS = 1, 100, 2000, 28
+PANEL_LINES, PANEL_FILES, FEED_PLAYS = 2000, 130, 60
+# A fault in one of these shows on panels alone.
+PANEL_MODULES = ("panels", "designs", "panel_listing", "panel_walks", "feeds", "feed_calls",
+                 "feed_promises")
 LONGEST = 150
 
 
@@ -79,21 +83,57 @@ def stopping_console(console_type):
     return program
 
 
-def comparison(name, files, lines):
+def stopping_panel(play):
+    """The panel program, which gives nothing where its fault stops it."""
+    def program(data):
+        try:
+            return play(data)
+        except Exception:
+            return 2, b""
+    return program
+
+
+def made_once():
+    """The files and lines that every copy is tried on."""
+    return {
+        "files": makers.schedule_files(SEED, FILES),
+        "traced": makers.traced_files(SEED, FILES),
+        "lines": makers.console_lines(SEED, LINES),
+        "panel lines": makers.panel_lines(SEED, PANEL_LINES),
+        "designs": makers.design_files(SEED, PANEL_FILES),
+    }
+
+
+def panel_comparison(name, made):
+    """The comparisons on panels of the true program with the copy, each as (what, call)."""
+    play = importlib.import_module(f"{name}.play")
+    promises = importlib.import_module(f"{name}.feed_promises")
+    console, panel = stopping_console(play.Console), stopping_panel(play.play_panel)
+    return (
+        ("panel_text", lambda: panel_comparisons.compare_panel_text(panel, made["designs"])),
+        ("panels", lambda: comparisons.compare_console(console, made["panel lines"], "panels")),
+        ("feeds", lambda: promises.check_feed_promises(SEED, FEED_PLAYS)),
+    )
+
+
+def comparison(name, made):
     """The comparisons of the true program with the copy, each as (what, call)."""
     play = importlib.import_module(f"{name}.play")
     promises = importlib.import_module(f"{name}.promises")
+    files, traced, lines = made["files"], made["traced"], made["lines"]
     return (
         ("sheets", lambda: comparisons.compare_sheets(stopping(play.play_sheets)())),
         ("listing", lambda: comparisons.compare_listing(stopping(play.play_listing), files)),
+        ("trace", lambda: comparisons.compare_listing(stopping(play.play_trace), traced,
+                                                      what="trace")),
         ("console", lambda: comparisons.compare_console(stopping_console(play.Console), lines)),
         ("promises", lambda: promises.check_promises(SEED, PLAYS)),
     )
 
 
-def caught_by(name, files, lines):
+def caught_by(name, made, compared):
     """What finds a difference in the copy first, and the difference; None where nothing does."""
-    for what, compare in comparison(name, files, lines):
+    for what, compare in (pair for part in compared for pair in part(name, made)):
         try:
             compare()
         except Exception as found:
@@ -104,18 +144,18 @@ def caught_by(name, files, lines):
 
 def main():
     """Plant each fault in turn."""
-    files, lines = makers.schedule_files(SEED, FILES), makers.console_lines(SEED, LINES)
-    faults, missed = planted_faults(), 0
+    made, faults, missed = made_once(), planted_faults(), 0
     with tempfile.TemporaryDirectory() as temporary:
         folder = Path(temporary)
         sys.path.insert(0, temporary)
         copy_with(folder, "unchanged", "run", [])
-        found = caught_by("unchanged", files, lines)
+        found = caught_by("unchanged", made, (comparison, panel_comparison))
         if found:
             raise SystemExit(f"a copy without a fault differs: {found}")
         for number, (fault, module, changes) in enumerate(faults):
             copy_with(folder, f"planted_{number}", module, changes)
-            found = caught_by(f"planted_{number}", files, lines)
+            compared = panel_comparison if module in PANEL_MODULES else comparison
+            found = caught_by(f"planted_{number}", made, (compared,))
             missed += found is None
             print(f"caught by {found[0]}: {fault} | {found[1]}" if found
                   else f"NOT CAUGHT: {fault}", flush=True)

@@ -2,9 +2,14 @@
 
     facts      the paper's small facts, over the independent program itself
     sheets     all sheets, from the text in a file (--text) or printed by a program (--program)
-    listing    the listing program on seeded schedule files, whole and damaged
+    listing    the listing program on seeded schedule files, whole and damaged; of bin/listing
+               the exit statuses too
+    trace      the trace program on the same files, of bin/trace the exit statuses too
     console    the console program on seeded lines, given to one program
     promises   the promises by random play, over the independent program itself
+    panels     the console program on seeded lines about designs and runs over feed sheets
+    panel_text the panel program on seeded design files, whole and damaged
+    feeds      what holds of every feed sheet by random play, over the independent program itself
 
 The end is 0 when all is equal, 1 at the first difference, 2 for bad usage.
 """
@@ -18,14 +23,19 @@ if not __package__:
     sys.path[0] = str(Path(__file__).resolve().parents[1])
     __package__ = "independent"
 
-from . import comparisons, makers
+from . import comparisons, makers, panel_comparisons
 from .differences import Difference
 from .facts import check_facts
+from .feed_promises import check_feed_promises
 from .maker_checks import check_makers
+from .panel_facts import check_panel_facts
 from .promises import check_promises
 
 ROOT = Path(__file__).resolve().parents[2]
-SIZES = {"facts": 1, "sheets": 1, "listing": 300, "console": 10_000, "promises": 2_800}
+SIZES = {"facts": 1, "sheets": 1, "listing": 300, "trace": 300, "console": 10_000,
+         "promises": 2_800, "panels": 10_000, "panel_text": 300, "feeds": 1_000}
+PROGRAMS = {"panels": "console", "panel_text": "panel"}
+FILES = {"listing": makers.schedule_files, "trace": makers.traced_files}
 
 
 def arguments():
@@ -35,11 +45,11 @@ def arguments():
     parser.add_argument("what", choices=tuple(SIZES), metavar="WHAT", help=", ".join(SIZES))
     parser.add_argument("--seed", type=int, default=1, help="the makers' seed (1)")
     parser.add_argument("--size", type=int,
-                        help="how many files (300), lines (10000) or plays (2800)")
+                        help="how many files (300), lines (10000) or plays (2800, feeds 1000)")
     parser.add_argument("--text", type=Path, help="for sheets: a file with the text")
     parser.add_argument("--program", nargs=argparse.REMAINDER, metavar="PATH",
                         help="the program and its arguments, last of all on the line "
-                             "(bin/listing, bin/console)")
+                             "(bin/listing, bin/trace, bin/console, bin/panel)")
     given = parser.parse_args()
     if given.size is not None and given.size < 1:
         parser.error("--size is at least 1")
@@ -56,15 +66,30 @@ def compare(given):
     """The comparison that is asked for; in words, what was found equal."""
     size = given.size or SIZES[given.what]
     if given.what == "facts":
-        return f"{check_facts()}; {check_makers()}"
+        return f"{check_facts()}; {check_makers()}; {check_panel_facts()}"
     if given.what == "promises":
         return check_promises(given.seed, size)
+    if given.what == "feeds":
+        return check_feed_promises(given.seed, size)
     if given.what == "sheets":
         text = given.text.read_bytes() if given.text else comparisons.Program(given.program)(b"")
         return comparisons.compare_sheets(text)
-    program = comparisons.Program(given.program or [str(ROOT / "bin" / given.what)])
-    if given.what == "listing":
-        return comparisons.compare_listing(program, makers.schedule_files(given.seed, size))
+    command = given.program or [str(ROOT / "bin" / PROGRAMS.get(given.what, given.what))]
+    if given.what == "panel_text":
+        if given.program is None:
+            comparisons.check_unreadable(given.what, command)
+        program = panel_comparisons.FileProgram(command)
+        return panel_comparisons.compare_panel_text(program, makers.design_files(given.seed, size))
+    program = comparisons.Program(command)
+    if given.what == "panels":
+        lines = makers.panel_lines(given.seed, size)
+        return comparisons.compare_console(program, lines, "panels")
+    if given.what in FILES:
+        ours = given.program is None  # another program's exit status is its own affair
+        if ours:
+            comparisons.check_unreadable(given.what, program.command)
+        files = FILES[given.what](given.seed, size)
+        return comparisons.compare_listing(program, files, ours, given.what)
     return comparisons.compare_console(program, makers.console_lines(given.seed, size))
 
 

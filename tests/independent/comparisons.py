@@ -12,15 +12,22 @@ from .differences import Difference, first_unequal, short, shrink
 from .listing import listing
 from .play import lines_of
 from .sheet_lines import sheet_lines
+from .trace import trace
 
 LIMIT_SECONDS = 600
+TEXTS = {"listing": listing, "trace": trace}
+NO_REFUSAL = ("record", "set", "help", "frecord", "fset", "feed")
+# The lines from which on a comparison's play may be tried again.
+RESETS = {"console": ("open", "set"), "panels": ("feed",)}
+TRIED_RESETS = 3
 
 
 class Program:
-    """A program of the cabinet's software, run anew at each call."""
+    """A program of the cabinet's software, run anew at each call; `status` is how it ended last."""
 
     def __init__(self, command):
         self.command = command
+        self.status = None
 
     def __call__(self, data):
         try:
@@ -28,6 +35,7 @@ class Program:
                                   timeout=LIMIT_SECONDS, check=False)
         except subprocess.TimeoutExpired:
             raise Difference(f"{self.command[0]}: no end after {LIMIT_SECONDS} seconds") from None
+        self.status = done.returncode
         return done.stdout
 
 
@@ -53,25 +61,41 @@ def compare_sheets(text):
     return f"{len(expected)} sheet lines equal"
 
 
-def compare_listing(program, files):
-    """The listing of each file, byte for byte."""
+def compare_listing(program, files, statuses=False, what="listing"):
+    """The listing or the trace of each file, byte for byte; where asked for, how the program ended."""
     refusals = Counter()
     for at, (name, parts, text) in enumerate(files):
         if program(b"".join(parts)) != text.encode("ascii"):
-            raise listing_difference(program, f"listing: file {at} ({name}) differs", parts)
-        refusals[int(text.split()[1]) if text.startswith("refused") else 0] += 1
-    return f"{len(files)} listings equal; refusals {tally(refusals)}"
+            raise listing_difference(program, what, f"file {at} ({name}) differs", parts)
+        refused = text.startswith("refused")
+        if statuses and program.status != int(refused):
+            raise unlike(f"{what}: file {at} ({name}): the exit status differs",
+                         str(int(refused)), str(program.status))
+        refusals[int(text.split()[1]) if refused else 0] += 1
+    with_statuses = " with their exit statuses" if statuses else ""
+    return f"{len(files)} {what}s equal{with_statuses}; refusals {tally(refusals)}"
 
 
-def listing_difference(program, what, parts):
+def check_unreadable(what, command):
+    """What is no file ends with 2, one line on standard error and nothing on standard output."""
+    for path in ("/no/such/file", "/"):
+        done = subprocess.run([*command, path], stdin=subprocess.DEVNULL, capture_output=True,
+                              timeout=LIMIT_SECONDS, check=False)
+        found = (done.returncode, done.stdout, done.stderr.count(b"\n"))
+        if found != (2, b"", 1):
+            raise unlike(f"{what}: {path}: status, output and lines of error differ",
+                         str((2, b"", 1)), str(found))
+
+
+def listing_difference(program, what, where, parts):
     """The difference on the shortest file that is found by dropping parts of this one."""
     def differs(fewer):
         data = b"".join(fewer)
-        return program(data) != listing(data).encode("ascii")
+        return program(data) != TEXTS[what](data).encode("ascii")
 
     data = b"".join(shrink(parts, differs))
-    return unlike(f"{what}; shortest file found, {len(data)} bytes: {short(data.hex() or '-')}",
-                  listing(data), program(data).decode("latin-1"))
+    return unlike(f"{what}: {where}; shortest file found, {len(data)} bytes: "
+                  f"{short(data.hex() or '-')}", TEXTS[what](data), program(data).decode("latin-1"))
 
 
 def same(line, expected, found):
@@ -84,7 +108,7 @@ def ask(program, lines):
     return lines_of(program("".join(line + "\n" for line in lines).encode("latin-1")))
 
 
-def compare_console(program, made):
+def compare_console(program, made, what="console"):
     """The answers to all lines, given to one program."""
     lines = [line for line, _ in made]
     answers = ask(program, lines)
@@ -92,17 +116,16 @@ def compare_console(program, made):
     for at, (line, expected) in enumerate(made):
         found = answers[at] if at < len(answers) else "(no answer)"
         if not same(line, expected, found):
-            what = f"console: the answer to line {at + 1} differs"
             raise console_difference(program, what, lines[:at + 1], (expected, found))
         refusals.update(refusal_of(line, expected))
     if len(answers) != len(lines):
-        raise Difference(f"console: {len(lines)} lines, but {len(answers)} answers")
+        raise Difference(f"{what}: {len(lines)} lines, but {len(answers)} answers")
     return f"{len(lines)} console lines equal; refusals {tally(refusals)}"
 
 
 def refusal_of(line, answer):
     """The refusal number in an answer, if it has one."""
-    if answer == "?" or line.split(" ")[0] in ("record", "set", "help"):
+    if answer == "?" or line.split(" ")[0] in NO_REFUSAL:
         return []
     return [int(answer.split(" ")[0])]
 
@@ -110,6 +133,8 @@ def refusal_of(line, answer):
 def console_difference(program, what, lines, met):
     """The difference at the last line, with as few lines before it as are found to show it."""
     *earlier, last = lines
+    resets = [at for at, line in enumerate(earlier) if line.split(" ")[0] in RESETS[what]]
+    what = f"{what}: the answer to line {len(lines)} differs"
 
     def answers_to(before):
         found = ask(program, before + [last])[len(before):]
@@ -121,14 +146,12 @@ def console_difference(program, what, lines, met):
     def differs(before):
         return not same(last, *answers_to(before))
 
-    resets = [at for at, line in enumerate(earlier) if line.split(" ")[0] in ("open", "set")]
-    for before in ([], earlier[resets[-1]:] if resets else earlier):
+    for before in ([], *[earlier[at:] for at in resets[:-TRIED_RESETS - 1:-1]], earlier):
         if differs(before):
             earlier = before
             break
     else:
-        if not differs(earlier):
-            return unlike(f"{what}, but not when asked again; the line: {short(last)}", *met)
+        return unlike(f"{what}, but not when asked again; the line: {short(last)}", *met)
     earlier = shrink(earlier, differs)
     shown = "".join(f"\n  > {short(line)}" for line in earlier + [last])
     return unlike(f"{what}; shortest lines found:{shown}", *answers_to(earlier))

@@ -1,24 +1,24 @@
 """A model of the console program: each line of text has one line for an answer.
 
-It holds one run record, at first that of a refused opening. A line that is no
-call, or has a number that does not fit its type, is answered `?` and changes
-nothing.
+It holds one run record, at first that of a refused opening, and what the lines
+of `feed_calls` hold. A line that is no call, or has a number that does not fit
+its type, is answered `?` and changes nothing.
 """
 
-from . import networks, records, run, schedule, words
+from . import feed_calls, networks, records, run, schedule, words
+from .lent import untouched, untouched_numbers
 from .words import NoCall, hex_text, list_text, u16, u32
 
-UNTOUCHED_BYTE = 0xAA
-UNTOUCHED_NUMBER = 2**32 - 1
 HELP = ("open W C; record; set W C ENTERED COUNTS TOGGLES PLACES; enter T V; turn T; "
         "gaps ROOM; sheet W C LEN; view W C LAYER LEN LEN; read HEX; "
-        "write ROOM KIND FIELD ..; run ROOM HEX; help")
+        "write ROOM KIND FIELD ..; run ROOM HEX; " + feed_calls.HELP + "; help")
 
 
-class Console:
+class Console(feed_calls.FeedCalls):
     """The console and the run record it holds."""
 
     def __init__(self):
+        super().__init__()
         self.run = run.Run()
 
     def answer(self, line):
@@ -48,10 +48,7 @@ class Console:
     def set(self, width, construction, entered, counts, toggles, places):
         """`set ..`: the record is then this one, sound or not."""
         self.run = run.Run(width, construction, entered)
-        for held, given in ((self.run.counts, counts), (self.run.toggles, toggles),
-                            (self.run.places, places)):
-            for index, value in given:
-                held[index] = value
+        words.put(self.run, counts, toggles, places)
         return "1" if run.sound(self.run) else "0"
 
     def enter(self, token, wire):
@@ -64,7 +61,7 @@ class Console:
 
     def gaps(self, room):
         """`gaps ROOM`: the whole lent slice after the call."""
-        lent = [UNTOUCHED_NUMBER] * room
+        lent = untouched_numbers(room)
         refusal, filled = run.gap_list(self.run, lent)
         return f"{refusal} {filled} {list_text(lent)}"
 
@@ -114,11 +111,6 @@ def write_call(given):
     return f"{refusal} {filled} {hex_text(lent)}"
 
 
-def untouched(length):
-    """A buffer to lend."""
-    return bytearray([UNTOUCHED_BYTE]) * length
-
-
 CALLS = {
     "open": (Console.open, (u16, u16)),
     "record": (Console.record, ()),
@@ -131,4 +123,5 @@ CALLS = {
     "read": (Console.read, (words.hex_bytes,)),
     "run": (Console.run_schedule, (words.room, words.hex_bytes)),
     "help": (Console.help, ()),
+    **feed_calls.CALLS,
 }

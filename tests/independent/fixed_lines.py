@@ -3,6 +3,9 @@
 CASE = ("0800010002000100080002000500000008000200090001000600030009000600030005000600"
         "03000500060003000900" "0800040002000000")
 
+# of a million entered, three at exit 63 are not dealt
+ALL_BUT_THREE = ",".join(f"{i}={15625 if i < 63 else 15622}" for i in range(64))
+
 CALLS = f"""
 record
 enter 0 0
@@ -32,12 +35,20 @@ turn 255
 turn 255
 record
 gaps 0
+open 2 1
+enter 5 0
+gaps 0
+gaps 1
+gaps 2
 set 4 1 5 3=5 - -
-gaps 15
-gaps 14
+gaps 4
+gaps 3
 gaps 65536
 set 64 2 1000000 63=1000000 - -
 gaps 65536
+set 64 1 1000000 {ALL_BUT_THREE} - 0=1/21/63,1=1/0/0,255=1/7/9
+gaps 3
+gaps 2
 set 4 1 1000000 0=999999 - 9=1/3/2
 enter 9 0
 enter 8 0

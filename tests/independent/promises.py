@@ -6,8 +6,8 @@ m is the number of requests entered; the share of exit i is (m - i)/w rounded up
 import random
 
 from .differences import Difference, must_equal
-from .networks import BITONIC, NAMES, PERIODIC, WIDTHS, depth
-from .run import Run, enter_sound, highest, missing_numbers, opening, sound, turn_sound
+from .networks import BITONIC, NAMES, PERIODIC, WIDTHS, depth, rows
+from .run import Run, enter_sound, missing_numbers, opening, sound, turn_sound
 
 NETWORKS = [(width, construction) for width in WIDTHS for construction in (BITONIC, PERIODIC)]
 
@@ -25,6 +25,7 @@ class Play:
         must_equal("opening", 0, refusal)
         self.own_turns = depth(width, construction) + 1
         self.turns = {}
+        self.wires = {}
         self.dealt = set()
         self.checked = None
 
@@ -36,6 +37,7 @@ class Play:
         """A request enters; then every promise is checked."""
         must_equal("enter", 0, enter_sound(self.run, token, wire))
         self.turns[token] = 0
+        self.wires[token] = wire
         self.check()
 
     def turn(self, token):
@@ -44,6 +46,7 @@ class Play:
         self.turns[token] += 1
         if self.turns[token] < self.own_turns:
             must_equal("before its last turn", "passed", answer[1])
+            self.check_pass(token, *answer[2:])
         else:
             must_equal("on its own turn depth + 1", "dealt", answer[1])
             must_equal("its exit", answer[3] % self.run.width, answer[2])
@@ -53,6 +56,14 @@ class Play:
             del self.turns[token]
         self.check()
         return answer
+
+    def check_pass(self, token, level, wire, layer, cell, outlet):
+        """The passes name the layers in order, and each the cell that its wire feeds."""
+        row = rows(self.run.width, self.run.construction)[layer]
+        must_equal("the layers in order", self.turns[token] - 1, layer)
+        must_equal("the cell that its wire feeds", row[self.wires[token]] // 2, cell)
+        must_equal("the new level and wire", (layer + 1, 2 * cell + outlet), (level, wire))
+        self.wires[token] = wire
 
     def check(self):
         """Every promise about the counts, unless nothing in them has changed."""
@@ -64,20 +75,26 @@ class Play:
         if min(shortfalls) < 0:
             raise Difference(f"an exit has dealt more than its share: {run.counts} of {m}")
         must_equal("the shortfalls add up to the requests inside", inside, sum(shortfalls))
-        top = highest(run)
-        must_equal("the highest number dealt", max(self.dealt, default=None), top)
-        if top is not None and top >= m:
+        top, gaps = max(self.dealt, default=-1), missing_numbers(run)
+        if top >= m:
             raise Difference(f"number {top} is dealt when {m} have entered")
-        gaps = missing_numbers(run)
-        if len(gaps) > inside or gaps and gaps[0] < top - run.width * inside:
-            raise Difference(f"{inside} inside, the highest {top}, but missing are {gaps}")
+        must_equal("how long the gap list is", inside, len(gaps))
+        must_equal("the gap list", [v for v in range(m) if v not in self.dealt], gaps)
+        if gaps and gaps[0] < top - run.width * inside:
+            raise Difference(f"{inside} inside, {top} is dealt, but missing are {gaps}")
         if not inside:
             must_equal("numbers at rest", set(range(m)), self.dealt)
 
     def drain(self, rng, stalled=()):
-        """Turns in any order until only the stalled requests are inside."""
+        """Turns in any order until only the stalled requests are inside.
+
+        What they deal stands in the gap list, and is all of it where none is left inside.
+        """
+        listed, before = set(missing_numbers(self.run)), set(self.dealt)
         while moving := [token for token in self.turns if token not in stalled]:
             self.turn(rng.choice(moving))
+        dealt = self.dealt - before
+        must_equal("dealt from the gap list", dealt & listed if self.turns else listed, dealt)
 
 
 def chooser(rng):

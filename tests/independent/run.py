@@ -97,8 +97,8 @@ def enter_sound(run, token, wire):
 def turn(run, token):
     """A turn of a token inside. Order 9, 4, 8.
 
-    The answer is (refusal,), (0, "passed", new level, new wire) or
-    (0, "dealt", exit, number).
+    The answer is (refusal,), (0, "passed", new level, new wire, layer, cell,
+    outlet) or (0, "dealt", exit, number).
     """
     if not sound(run):
         return (9,)
@@ -127,39 +127,31 @@ def pass_cell(run, token, level, wire):
     outlet = 1 if run.toggles[toggle] else 0
     run.toggles[toggle] = not run.toggles[toggle]
     run.places[token] = (True, level + 1, 2 * cell + outlet)
-    return (0, "passed", level + 1, 2 * cell + outlet)
+    return (0, "passed", level + 1, 2 * cell + outlet, level, cell, outlet)
 
 
-def highest(run):
-    """The highest number dealt, or None where nothing is dealt."""
-    last = [i + run.width * (n - 1) for i, n in enumerate(run.counts) if n > 0]
-    return max(last, default=None)
+def missing_at(run, i):
+    """The missing numbers of exit i below entered, rising."""
+    return range(i + run.width * run.counts[i], run.entered, run.width)
 
 
 def missing_count(run):
-    """How many numbers are missing below the highest number dealt.
-
-    Of the numbers up to the highest, as many are dealt as the exits counted.
-    """
-    top = highest(run)
-    return 0 if top is None else top + 1 - sum(run.counts)
+    """How many numbers below entered are missing."""
+    return sum(len(missing_at(run, i)) for i in range(min(run.width, LARGEST_WIDTH)))
 
 
 def missing_numbers(run):
-    """The missing numbers below the highest number dealt, rising."""
-    top = highest(run)
-    if top is None:
-        return []
+    """The missing numbers below entered, rising."""
     numbers = []
     for i in range(run.width):
-        numbers.extend(range(i + run.width * run.counts[i], top, run.width))
+        numbers.extend(missing_at(run, i))
     return sorted(numbers)
 
 
 def gap_list(run, lent):
     """Write the gap list into the lent numbers; give the refusal and how many. Order 9, 17.
 
-    The count comes first, for a record never reached can miss millions.
+    The count comes first, for a record never reached can miss nearly a million.
     """
     if not sound(run):
         return 9, 0

@@ -104,10 +104,27 @@ def places(word):
     return entries(word, TOKENS, place_entry)
 
 
+def put(run, given_counts, given_toggles, given_places):
+    """Put what was read into the record's counts, toggles and places."""
+    for held, given in ((run.counts, given_counts), (run.toggles, given_toggles),
+                        (run.places, given_places)):
+        for index, value in given:
+            held[index] = value
+
+
 def record_text(run):
     """The six words of a run record: only what differs from an opening is listed."""
+    return f"{run.width} {run.construction} {run.entered} {board_text(run)}"
+
+
+def feed_text(feed):
+    """The six words of the record of a run over a feed sheet."""
+    return f"{feed.width} {feed.depth} {feed.entered} {board_text(feed)}"
+
+
+def board_text(run):
+    """Counts, toggles and places, in three words."""
     return " ".join((
-        f"{run.width} {run.construction} {run.entered}",
         list_text(f"{i}={n}" for i, n in enumerate(run.counts) if n),
         list_text(i for i, down in enumerate(run.toggles) if down),
         list_text(f"{t}={inside:d}/{level}/{wire}"

@@ -5,6 +5,10 @@ use lib.ListN.{getD, replicate}
 use Rattle.board.specs.declared.Place.{Place}
 use Rattle.board.specs.declared.Board.{Board}
 
+-- entries in one run
+abbrev pub maxEntered : ℕ
+maxEntered = 1000000
+
 -- the place of a free token
 abbrev pub freePlace : Place
 freePlace = record { inside = false; level = 0; wire = 0 }

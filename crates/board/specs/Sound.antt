@@ -6,6 +6,7 @@ use lib.Dec.{eqb, leb, ltb}
 use lib.ListN.{drop}
 use Rattle.board.specs.declared.Place.{Place}
 use Rattle.board.specs.declared.Board.{Board}
+use Rattle.board.specs.Board.{maxEntered}
 
 -- p holds of each element
 unfoldable pub all : {A : Type 0} → (A → Bool) → List A → Bool
@@ -18,7 +19,7 @@ sumOf f [] = 0
 sumOf f (a ∷ l) = f a + sumOf f l
 
 unfoldable pub fewEntered : Board → Bool
-fewEntered x = leb (x .entered) 1000000
+fewEntered x = leb (x .entered) maxEntered
 
 -- a token inside is at a level at most the depth and a wire below the width; a free token's place is level 0, wire 0
 abbrev pub placeOk : ℕ → ℕ → Place → Bool

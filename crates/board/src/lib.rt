@@ -9,6 +9,23 @@ ghost use lib.ListN.{length, drop};
 ghost use Rattle.board.specs.Board.{freePlace, freshBoard};
 ghost use Rattle.board.specs.Sound.{all, sumOf, placeOk, isZero, itself, insideOne, soundBoard};
 
+// ---- limits
+
+// Entries in one run.
+pub const MAX_ENTERED: u32 = 1_000_000;
+
+// Tokens are numbered from 0 to this.
+pub const MAX_TOKEN: u16 = 255;
+
+pub const TOKENS: usize = MAX_TOKEN as usize + 1;
+
+// Exits of the widest network, and cells of the largest.
+pub const EXITS: usize = 64;
+
+pub const CELLS: usize = 1152;
+
+// ---- the record
+
 // Where a token is; while it is free, level 0 and wire 0.
 pub struct Place {
     pub inside: bool,
@@ -19,9 +36,9 @@ pub struct Place {
 // The toggle of cell c in layer L stands at L · (w/2) + c; false is up.
 pub struct Board {
     pub entered: u32,
-    pub counts: [u32; 64],
-    pub toggles: [bool; 1152],
-    pub places: [Place; 256],
+    pub counts: [u32; EXITS],
+    pub toggles: [bool; CELLS],
+    pub places: [Place; TOKENS],
 }
 
 pub fn free_place() -> Place
@@ -39,9 +56,9 @@ pub fn fresh() -> Board
     ensures { λ r. ⌜ r ≡ freshBoard ⌝ }
 {
     let free = free_place();
-    let counts = [0u32; 64];
-    let toggles = [false; 1152];
-    let places = [free; 256];
+    let counts = [0u32; EXITS];
+    let toggles = [false; CELLS];
+    let places = [free; TOKENS];
     Board {
         entered: 0,
         counts,
@@ -61,12 +78,12 @@ fn place_ok(width: u16, depth: u16, p: Place) -> bool
     (p.level == 0) & (p.wire == 0)
 }
 
-fn places_ok(places: [Place; 256], width: u16, depth: u16) -> bool
+fn places_ok(places: [Place; TOKENS], width: u16, depth: u16) -> bool
     ensures { λ r. ⌜ r ≡ all (placeOk width depth) places ⌝ }
 {
     let mut ok = true;
     let mut i = 0;
-    while i < 256 {
+    while i < TOKENS {
         let p = places[i];
         let good = place_ok(width, depth, p);
         ok = ok & good;
@@ -75,26 +92,26 @@ fn places_ok(places: [Place; 256], width: u16, depth: u16) -> bool
     ok
 }
 
-fn counts_zero(counts: &[u32; 64], from: usize) -> bool
+fn counts_zero(counts: &[u32; EXITS], from: usize) -> bool
     requires { ⌜ length (now counts) ≡ 64 ⌝ }
     ensures { λ r. ⌜ r ≡ all isZero (drop from (now (counts .entry))) ⌝ }
 {
     let mut ok = true;
     let mut i = from;
-    while i < 64 {
+    while i < EXITS {
         ok = ok & (counts[i] == 0);
         i += 1;
     }
     ok
 }
 
-fn toggles_up(toggles: &[bool; 1152], from: usize) -> bool
+fn toggles_up(toggles: &[bool; CELLS], from: usize) -> bool
     requires { ⌜ length (now toggles) ≡ 1152 ⌝ }
     ensures { λ r. ⌜ r ≡ all not (drop from (now (toggles .entry))) ⌝ }
 {
     let mut ok = true;
     let mut i = from;
-    while i < 1152 {
+    while i < CELLS {
         ok = ok & !toggles[i];
         i += 1;
     }
@@ -114,13 +131,13 @@ fn wide(n: u32) -> u64
 }
 
 // The numbers dealt at all exits, in 64 bits: 64 counts of 32 bits do not wrap.
-fn dealt_sum(counts: &[u32; 64]) -> u64
+fn dealt_sum(counts: &[u32; EXITS]) -> u64
     requires { ⌜ length (now counts) ≡ 64 ⌝ }
     ensures { λ r. ⌜ (r ≡ sumOf itself (now (counts .entry))) × (r < 64 * 4294967296) ⌝ }
 {
     let mut sum: u64 = 0;
     let mut i = 0;
-    while i < 64 {
+    while i < EXITS {
         sum += wide(counts[i]);
         i += 1;
     }
@@ -133,12 +150,12 @@ fn one_inside(place: Place) -> u64
     if place.inside { 1 } else { 0 }
 }
 
-pub fn inside_sum(places: [Place; 256]) -> u64
+pub fn inside_sum(places: [Place; TOKENS]) -> u64
     ensures { λ r. ⌜ (r ≡ sumOf insideOne places) × (r ≤ 256) ⌝ }
 {
     let mut sum: u64 = 0;
     let mut i = 0;
-    while i < 256 {
+    while i < TOKENS {
         let p = places[i];
         sum += one_inside(p);
         i += 1;
@@ -146,7 +163,7 @@ pub fn inside_sum(places: [Place; 256]) -> u64
     sum
 }
 
-fn adds_up(counts: &[u32; 64], places: [Place; 256], entered: u32) -> bool
+fn adds_up(counts: &[u32; EXITS], places: [Place; TOKENS], entered: u32) -> bool
     requires { ⌜ length (now counts) ≡ 64 ⌝ }
     ensures { λ r. ⌜ r ≡ eqb (sumOf itself (now (counts .entry)) + sumOf insideOne places) entered ⌝ }
 {
@@ -164,5 +181,5 @@ pub fn is_sound(board: Board, width: u16, depth: u16) -> bool
     let zero = counts_zero(&board.counts, width as usize);
     let up = toggles_up(&board.toggles, cells(width, depth));
     let even = adds_up(&board.counts, places, entered);
-    (entered <= 1_000_000) & placed & zero & up & even
+    (entered <= MAX_ENTERED) & placed & zero & up & even
 }

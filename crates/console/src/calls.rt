@@ -1,24 +1,25 @@
 // Which call a line is. A call has a name, and then words of the kinds that it asks, a letter each: a number of 16 bits (s),
-// one of 32 bits (l), the length of what is lent (r), the kind of a record (1 to 5), bytes in hex (h), a list of a run record
-// (c, t, p).
+// one of 32 bits (l), the length of what is lent (r), the kind of a record (1 to 5), bytes in hex (h), those of a feed sheet (f), a
+// list of a record (c, t, p).
 ghost use Prim.Native.Nat.{_≤_};
-use lines::numbers;
-use lines::parts;
-use lines::words;
-use run_text::lists;
+use console_lines::numbers;
+use console_lines::parts;
+use console_lines::words;
 
-// The number of a line's call among these, from 0; 16 where it is none.
-//   0 open ss       4 record     8 read h    12 write r2ss
-//   1 set sslctp    5 gaps r     9 run rh    13 write r3s
-//   2 enter ss      6 sheet ssr  10 help     14 write r4l
-//   3 turn s        7 view sssrr 11 write r1ss  15 write r5ssl
+// The number of a line's call among these, from 0; 24 where it is none.
+//   0 open ss      6 fenter ss   12 fgaps r      18 help
+//   1 set sslctp   7 fturn s     13 sheet ssr    19 write r1ss
+//   2 enter ss     8 feed f      14 view sssrr   20 write r2ss
+//   3 turn s       9 record      15 read h       21 write r3s
+//   4 fopen ss     10 gaps r     16 run rh       22 write r4l
+//   5 fset sslctp  11 frecord    17 panel rh     23 write r5ssl
 pub fn call_of(line: &[u8]) -> usize
-    ensures { λ r. ⌜ r ≤ 16 ⌝ }
+    ensures { λ r. ⌜ r ≤ 24 ⌝ }
 {
     let table =
-        b"open ss,set sslctp,enter ss,turn s,record ,gaps r,sheet ssr,view sssrr,read h,run rh,help ,write r1ss,write r2ss,write r3s,write r4l,write r5ssl";
+        b"open ss,set sslctp,enter ss,turn s,fopen ss,fset sslctp,fenter ss,fturn s,feed f,record ,gaps r,frecord ,fgaps r,sheet ssr,view sssrr,read h,run rh,panel rh,help ,write r1ss,write r2ss,write r3s,write r4l,write r5ssl";
     let mut call = 0;
-    while call < 16 {
+    while call < 24 {
         if is(line, parts::part(table, b',', call)) {
             return call;
         }
@@ -39,7 +40,8 @@ fn fits(word: &[u8], kind: u8) -> bool {
         b'l' => numbers::is_decimal(word, 4_294_967_295),
         b'r' => numbers::is_decimal(word, 65_536),
         b'h' => numbers::is_hex(word),
-        b'c' | b't' | b'p' => lists::is_list(kind, word),
+        b'f' => numbers::is_hex(word) & (word.len() <= 131_072),
+        b'c' | b't' | b'p' => console_lists::is_list(kind, word),
         _ => is_kind(word, kind),
     }
 }

@@ -1,75 +1,173 @@
 // Every public call of the cabinet's software by a line of text: for a fitter at the bench, and for tests. Each line of
 // standard input has one line for an answer; a line that is no call is answered `?` and changes nothing.
+ghost use Prim.Native.Nat.{_≤_};
+ghost use mathlib.Core.Path.{_≡_};
 ghost use lib.ListN.{length};
-ghost use Rattle.lines.specs.Bounds.{Held};
+ghost use Rattle.console_lines.specs.Bounds.{Held};
 
 mod calls;
 
-use byte_calls::record_calls;
-use byte_calls::sheet_calls;
-use lines::input;
-use lines::input::Lines;
+use console_bytes::record_calls;
+use console_bytes::sheet_calls;
+use console_lines::input;
+use console_lines::input::Lines;
+use console_run::Answered;
+use feeds::FeedRun;
 use run::Run;
 
-// The calls, in one line.
-fn help() {
-    io::write_all(
-        1,
-        b"open W C; record; set W C ENTERED COUNTS TOGGLES PLACES; enter T V; turn T; gaps ROOM; sheet W C LEN; view W C LAYER LEN LEN; read HEX; write ROOM KIND FIELD ..; run ROOM HEX; help\n",
-    );
+// What the console holds besides the bytes of the feed sheet: a record of each product, and how many bytes that sheet has.
+struct Holding {
+    run: Run,
+    feed: FeedRun,
+    fed: usize,
 }
 
-// A call that leaves the run as it is.
-fn show(call: usize, line: &[u8], text: &mut [u8], run: Run) {
+// What the console holds after a line, and where the answer ends.
+struct Told {
+    holding: Holding,
+    end: usize,
+}
+
+// The calls, in one line.
+fn put_help(text: &mut [u8]) -> usize {
+    text::put_text(
+        text,
+        0,
+        b"open W C; record; set W C ENTERED COUNTS TOGGLES PLACES; enter T V; turn T; gaps ROOM; sheet W C LEN; view W C LAYER LEN LEN; read HEX; write ROOM KIND FIELD ..; run ROOM HEX; panel ROOM HEX; feed HEX; fopen W D; fenter T V; fturn T; fgaps ROOM; frecord; fset W D ENTERED COUNTS TOGGLES PLACES; help\n",
+    )
+}
+
+// The answer to a line that is no call.
+fn put_unknown(text: &mut [u8]) -> usize {
+    text::put_text(text, 0, b"?\n")
+}
+
+// A call that changes the run. Gives the run after it.
+fn on_run(call: usize, line: &[u8], text: &mut [u8], run: Run) -> Answered {
     match call {
-        4 => run_text::send(text, run),
-        5 => run_calls::gaps(line, text, run),
-        6 => sheet_calls::sheet(line, text),
-        7 => sheet_calls::view(line, text),
-        8 => record_calls::read(line, text),
-        9 => record_calls::run(line, text),
-        10 => help(),
-        16 => answers::send_unknown(),
+        0 => console_run::open(line, text),
+        1 => console_run::set(line, text),
+        2 => console_run::enter(line, text, run),
+        _ => console_run::turn(line, text, run),
+    }
+}
+
+// A call that changes the run over a feed sheet. Gives the run after it.
+fn on_feed(
+    call: usize,
+    line: &[u8],
+    text: &mut [u8],
+    run: FeedRun,
+    sheet: &[u8],
+) -> console_feed::Answered {
+    match call {
+        4 => console_feed::open(line, text, sheet),
+        5 => console_feed::set(line, text),
+        6 => console_feed::enter(line, text, run, sheet),
+        _ => console_feed::turn(line, text, run, sheet),
+    }
+}
+
+// A call that leaves what is held as it is. Gives where its answer ends.
+fn show(call: usize, line: &[u8], text: &mut [u8], run: Run, feed: FeedRun) -> usize {
+    match call {
+        9 => console_run::record(text, run),
+        10 => console_run::gaps(line, text, run),
+        11 => console_feed::record(text, feed),
+        12 => console_feed::gaps(line, text, feed),
+        13 => sheet_calls::sheet(line, text),
+        14 => sheet_calls::view(line, text),
+        15 => record_calls::read(line, text),
+        16 => record_calls::run(line, text),
+        17 => console_panel::panel(line, text),
+        18 => put_help(text),
+        24 => put_unknown(text),
         _ => record_calls::write(line, text),
     }
 }
 
-// Answers a line; gives the run after it.
-fn answer(line: &[u8], text: &mut [u8], run: Run) -> Run {
-    let call = calls::call_of(line);
-    match call {
-        0 => run_calls::open(line, text),
-        1 => run_calls::set(line, text),
-        2 => run_calls::enter(line, text, run),
-        3 => run_calls::turn(line, text, run),
-        _ => {
-            show(call, line, text, run);
-            run
-        }
+// Answers a call that leaves the feed sheet as it is.
+fn answer_call(call: usize, line: &[u8], text: &mut [u8], sheet: &[u8], holding: Holding) -> Told
+    ensures { λ r. ⌜ r .holding .fed ≡ holding .fed ⌝ }
+{
+    let fed = holding.fed;
+    let run = holding.run;
+    let feed = holding.feed;
+    if call < 4 {
+        let answered = on_run(call, line, text, run);
+        let end = answered.end;
+        let run = answered.run;
+        let holding = Holding { run, feed, fed };
+        return Told { holding, end };
     }
+    if call < 8 {
+        let answered = on_feed(call, line, text, feed, sheet);
+        let end = answered.end;
+        let feed = answered.run;
+        let holding = Holding { run, feed, fed };
+        return Told { holding, end };
+    }
+    let end = show(call, line, text, run, feed);
+    Told { holding, end }
+}
+
+// Answers a line.
+fn answer(line: &[u8], text: &mut [u8], sheet: &mut [u8], mut holding: Holding) -> Told
+    requires { ⌜ holding .fed ≤ length (now sheet) ⌝ }
+    ensures { λ r. ⌜ r .holding .fed ≤ length (now (sheet .exit)) ⌝ }
+{
+    let call = calls::call_of(line);
+    if call == 8 {
+        let put = console_feed::feed(line, text, sheet);
+        holding.fed = put.count;
+        let end = put.end;
+        return Told { holding, end };
+    }
+    let fed = holding.fed;
+    answer_call(call, line, text, &sheet[0..fed], holding)
 }
 
 // Answers the line that the buffer holds.
-fn answer_held(input: &[u8], lines: Lines, text: &mut [u8], run: Run) -> Run
-    requires { ⌜ Held (lines .from) (lines .end) (lines .to) (length (now input)) ⌝ }
+fn answer_held(
+    input: &[u8],
+    lines: Lines,
+    text: &mut [u8],
+    sheet: &mut [u8],
+    holding: Holding,
+) -> Told
+    requires { ⌜ Held (lines .from) (lines .end) (lines .to) (length (now input)) × (holding .fed ≤ length (now sheet)) ⌝ }
+    ensures { λ r. ⌜ r .holding .fed ≤ length (now (sheet .exit)) ⌝ }
 {
     if lines.too_long {
-        answers::send_unknown();
-        return run;
+        let end = put_unknown(text);
+        return Told { holding, end };
     }
     let from = lines.from;
     let end = lines.end;
-    answer(&input[from..end], text, run)
+    answer(&input[from..end], text, sheet, holding)
 }
 
-// Answers lines to the end of the input. The run is at first that of a refused opening.
-fn serve(input: &mut [u8], text: &mut [u8]) {
+// What the console holds at first: records of refused openings, and no feed sheet.
+fn at_first() -> Holding
+    ensures { λ r. ⌜ r .fed ≡ 0 ⌝ }
+{
+    let none = [0u8; 0];
     let opened = Run::open(0, 0);
-    let mut run = opened.run;
+    let fed = FeedRun::open(0, 0, &none);
+    let run = opened.run;
+    let feed = fed.run;
+    Holding { run, feed, fed: 0 }
+}
+
+// Answers lines to the end of the input.
+fn serve(input: &mut [u8], text: &mut [u8], sheet: &mut [u8]) {
+    let mut holding = at_first();
     let mut lines = input::next_line(input, input::start());
     let mut turns = u64::MAX;
     while turns > 0 && !lines.done {
-        run = answer_held(input, lines, text, run);
+        let told = answer_held(input, lines, text, sheet, holding);
+        console_answers::send(text, told.end);
+        holding = told.holding;
         lines = input::next_line(input, lines);
         turns -= 1;
     }
@@ -79,5 +177,6 @@ fn serve(input: &mut [u8], text: &mut [u8]) {
 fn main() {
     let mut input = [0u8; 262_145];
     let mut text = [0u8; 800_000];
-    serve(&mut input, &mut text);
+    let mut sheet = [0u8; 65_536];
+    serve(&mut input, &mut text, &mut sheet);
 }

@@ -1,33 +1,59 @@
 -- Each public contract allows one answer: an equation does, and each record of a contract is made of equations. Assumes nothing.
-use mathlib.Core.Path.{_≡_, sym, _∙_}
+use Prim.Native.Nat.{ℕ, zero, suc}
+use mathlib.Core.Path.{_≡_, refl, sym, _∙_}
+use mathlib.Core.List.{List, []}
+use native.Mathlib.Omega.{arith}
+use Rattle.sheets.specs.Sheets.{ViewIs}
+use Rattle.sheets.proofs.Sheets.{view-empty}
 use Rattle.facts.specs.Answers.{OneAnswer}
 
 same : {A : Type 0} {a r s : A} → r ≡ a → s ≡ a → r ≡ s
 same e f = e ∙ sym f
 
+stable : (n : ℕ) → ((n ≡ 0 → ⊥) → ⊥) → n ≡ 0
+stable zero h = refl
+stable (suc n) h = absurd (h (λ e. omega arith))
+
+-- a view that shows bytes is not refused, so their place is said
+place-one : {w c L : ℕ} {sheet row row′ : List ℕ} {at p q : ℕ × ℕ} → ViewIs w c L sheet at row p → ViewIs w c L sheet at row′ q → (row ≡ [] → ⊥) → p ≡ q
+place-one e f some = let shown = stable _ (λ refused. some (view-empty _ _ _ _ _ _ _ e .1 refused)) in same (e .there shown) (f .there shown)
+
 pub one-answer : OneAnswer
 one-answer =
     record {
-      width-ok = λ w r s. same;
-      construction-ok = λ c r s. same;
-      open-refusal = λ w c r s. same;
-      depth-of = λ w c r s. same;
-      row = λ w c L r s. same;
-      sheet = λ w c before r s l m e f. (same (e .answer) (f .answer), same (e .bytes) (f .bytes));
-      view-refusal = λ w c L n r s. same;
-      view = λ w c L sheet at r s e f. same (e .1 .bytes) (f .1 .bytes);
-      view-place = λ w c L sheet row at shown r s e f. same (e .there shown) (f .there shown);
-      opening = λ w c r s. same;
-      is-sound = λ x r s. same;
-      enter = λ x t v r s. same;
-      turn = λ x t r s. same;
-      gap-list = λ x before r s l m e f. (same (e .answer) (f .answer), same (e .numbers) (f .numbers));
-      read = λ s₀ r s. same;
-      read-in-schedule = λ s₀ r s. same;
-      field-of-two = λ s₀ at r s. same;
-      field-of-four = λ s₀ at r s. same;
-      size-of = λ x r s. same;
-      write = λ x before r s l m e f. (same (e .answer) (f .answer), same (e .buffer) (f .buffer));
-      run = λ s₀ out r s l m e f. (same (e .outcome) (f .outcome), same (e .output) (f .output));
-      listing = λ s₀ out r s l m e f. (same (e .answer) (f .answer), same (e .buffer) (f .buffer));
+      width-ok = λ κs a r s l m e f. (same e f, refl);
+      construction-ok = λ κs a r s l m e f. (same e f, refl);
+      open-refusal = λ κs a r s l m e f. (same e f, refl);
+      depth-of = λ κs a r s l m e f. (same e f, refl);
+      row = λ κs a r s l m e f. (same e f, refl);
+      place-of = λ κs a r s l m e f. (same e f, refl);
+      sheet = λ κs a r s l m e f. (same (e .answer) (f .answer), λ i. (tt, (tt, (same (e .bytes) (f .bytes) i, tt))));
+      view-refusal = λ κs a r s l m e f. (same e f, refl);
+      view = λ κs a r s l m e f. ((same (e .bytes) (f .bytes), place-one e f), refl);
+      opening = λ κs a r s l m e f. (same e f, refl);
+      is-sound = λ κs a r s l m e f. (same e f, refl);
+      enter = λ κs a r s l m e f. (same e f, refl);
+      turn = λ κs a r s l m e f. (same e f, refl);
+      gap-list = λ κs a r s l m e f. (same (e .answer) (f .answer), λ i. (tt, (same (e .numbers) (f .numbers) i, tt)));
+      read-record = λ κs a r s l m e f. (same e f, refl);
+      read-in-schedule = λ κs a r s l m e f. (same e f, refl);
+      field-of-two = λ κs a r s l m e f. (same e f, refl);
+      field-of-four = λ κs a r s l m e f. (same e f, refl);
+      size-of = λ κs a r s l m e f. (same e f, refl);
+      write-record = λ κs a r s l m e f. (same (e .answer) (f .answer), λ i. (tt, (same (e .buffer) (f .buffer) i, tt)));
+      run = λ κs a r s l m e f. (same (e .outcome) (f .outcome), λ i. (tt, (same (e .output) (f .output) i, tt)));
+      in-limits = λ κs a r s l m e f. (same e f, refl);
+      is-unpaired = λ κs a r s l m e f. (same e f, refl);
+      is-permutation = λ κs a r s l m e f. (same e f, refl);
+      feed-refusal = λ κs a r s l m e f. (same e f, refl);
+      fed-at = λ κs a r s l m e f. (same e f, refl);
+      feed-opening = λ κs a r s l m e f. (same e f, refl);
+      feed-is-sound = λ κs a r s l m e f. (same e f, refl);
+      feed-enter = λ κs a r s l m e f. (same e f, refl);
+      feed-turn = λ κs a r s l m e f. (same e f, refl);
+      feed-gap-list = λ κs a r s l m e f. (same (e .answer) (f .answer), λ i. (tt, (same (e .numbers) (f .numbers) i, tt)));
+      panel = λ κs a r s l m e f. (same (e .answer) (f .answer), λ i. (tt, (same (e .sheet) (f .sheet) i, tt)));
+      listing = λ κs a r s l m e f. (same (e .answer) (f .answer), λ i. (tt, (same (e .buffer) (f .buffer) i, tt)));
+      trace = λ κs a r s l m e f. (same (e .answer) (f .answer), λ i. (tt, (same (e .buffer) (f .buffer) i, tt)));
+      panel-text = λ κs a r s l m e f. (same (e .answer) (f .answer), λ i. (tt, (same (e .buffer) (f .buffer) i, tt)));
     }

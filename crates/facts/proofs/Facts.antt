@@ -12,13 +12,13 @@ use Rattle.moves.specs.Answer.{valuesOf}
 use Rattle.moves.specs.Enter.{enterNo, entering, enterWith}
 use Rattle.moves.specs.Turn.{turnNo, passing, dealing, turnWith}
 use Rattle.run.specs.Run.{fresh, openOf, depthIn, sound, enterOf, feedsOf, turnOf}
-use Rattle.schedule.proofs.Cases.{empty-schedule, three-bytes}
+use Rattle.outcome.proofs.Cases.{empty-schedule, three-bytes}
 use Rattle.listing_text.proofs.Cases.{case-listing}
-use Rattle.promise.specs.History.{callOf, callsOf, history}
+use Rattle.promise.specs.History.{callOf, callsOf, callsBy, history}
 use Rattle.facts.specs.Facts.{Facts}
 
 pub facts : Facts
-unfolding firstOf widthOk constructionOk openNo sheetOf rowOf rows tabulate placeOf place bitonic periodic part feedAt depthOf levels share freshBoard placeAt countAt downAt all sumOf fewEntered placesOk countsBeyond togglesBeyond dealtSum insideSum addsUp soundBoard valuesOf enterNo entering enterWith turnNo passing dealing turnWith fresh openOf depthIn sound enterOf feedsOf turnOf callOf callsOf history
+unfolding firstOf widthOk constructionOk openNo sheetOf rowOf rows tabulate placeOf place bitonic periodic part feedAt depthOf levels share freshBoard placeAt countAt downAt all sumOf fewEntered placesOk countsBeyond togglesBeyond dealtSum insideSum addsUp soundBoard valuesOf enterNo entering enterWith turnNo passing dealing turnWith fresh openOf depthIn sound enterOf feedsOf turnOf callOf callsOf callsBy history
 facts =
     record {
       one = refl;

@@ -1,64 +1,87 @@
--- Each public contract allows one answer: any two answers that it allows on the same input are equal, and so are the later contents
--- of everything lent. Definitions only. Assumes nothing.
-use Prim.Native.Nat.{ℕ}
+-- Each public contract allows one answer: any two answers that it allows on the same arguments are equal, and so is what is left in
+-- everything lent. The contracts are the functions' own: `Learnt` is what a caller learns by the `ensures`. Definitions only. Assumes
+-- nothing.
 use mathlib.Core.Path.{_≡_}
-use mathlib.Core.Bool.{Bool, true, false}
-use mathlib.Core.List.{List}
-use lib.ListN.{length}
-use Rattle.order.specs.declared.Filled.{Filled}
-use Rattle.network.specs.Widths.{widthOk, constructionOk, openNo, depthOf}
-use Rattle.network.specs.Rows.{rowArray}
-use Rattle.sheets.specs.Sheets.{SheetIs, viewNo, ViewIs}
-use Rattle.run.specs.declared.Run.{Run}
-use Rattle.run.specs.declared.Opened.{Opened}
-use Rattle.run.specs.declared.Entered.{Entered}
-use Rattle.run.specs.declared.Turned.{Turned}
-use Rattle.run.specs.Run.{openOf, sound, enterOf, turnOf}
-use Rattle.gaps.specs.Gaps.{GapsIs}
-use Rattle.records.specs.declared.Record.{Record}
-use Rattle.records.specs.declared.Read.{Read}
-use Rattle.records.specs.Fields.{field}
-use Rattle.records.specs.Reading.{readOf}
-use Rattle.records.specs.Writing.{sizeOf, Writes}
-use Rattle.schedule.specs.declared.Outcome.{Outcome}
-use Rattle.schedule.specs.Whole.{Ran}
-use Rattle.listing_text.specs.declared.Listed.{Listed}
-use Rattle.listing_text.specs.Listing.{Lists}
+use mathlib.Core.List.{[]}
+use contract.Lifetimes.{Lfts}
+use denote.Ref.{now, ptr}
+use denote.Triple.Entry.{Args, Res}
+use denote.Triple.Clauses.{Ended, Lasts, AtExit, atExit}
+use Rattle.network.proofs as network
+use Rattle.sheets.proofs as sheets
+use Rattle.run.proofs as run
+use Rattle.gaps.proofs as gaps
+use Rattle.records.proofs as records
+use Rattle.schedule.proofs as schedule
+use Rattle.feed_sheet.proofs as feed_sheet
+use Rattle.feeds.proofs as feeds
+use Rattle.feed_gaps.proofs as feed_gaps
+use Rattle.panels.proofs as panels
+use Rattle.listing_text.proofs as listing_text
+use Rattle.trace_text.proofs as trace_text
+use Rattle.panel_text.proofs as panel_text
 
--- a contract on what is answered, and one on what is answered and on lent numbers after it
-abbrev pub One : {A : Type 0} → (A → Type 0) → Type 0
-One {A} P = (r s : A) → P r → P s → r ≡ s
+-- what a contract says of the arguments, the answer and the parameters at exit
+abbrev pub Says : Ended → Type 1
+Says T = (κs : Lfts (T .signature .lifetimes)) → Args (T .signature) κs → Res (T .signature) κs → AtExit T κs → Type 0
 
-abbrev pub OneWith : {A : Type 0} → (A → List ℕ → Type 0) → Type 0
-OneWith {A} P = (r s : A) (l m : List ℕ) → P r l → P s m → (r ≡ s) × (l ≡ m)
+-- in what two answers are alike
+abbrev pub Alike : Ended → Type 1
+Alike T = (κs : Lfts (T .signature .lifetimes)) → Res (T .signature) κs → Res (T .signature) κs → Type 0
+
+-- of any two answers that a contract allows: they are alike, and the last values of everything lent, l and m, are equal
+abbrev pub OneBy : (T : Ended) → Alike T → Says T → Type 0
+OneBy T alike says = (κs : Lfts (T .signature .lifetimes)) (a : Args (T .signature) κs) (r s : Res (T .signature) κs) (l m : Lasts T κs a) → says κs a r (atExit T κs a l) → says κs a s (atExit T κs a m) → alike κs r s × (l ≡ m)
+
+abbrev pub One : (T : Ended) → Says T → Type 0
+One T = OneBy T (λ κs r s. r ≡ s)
 
 pub record OneAnswer : Type 0 where
   -- network
-  pub width-ok : (w : ℕ) → One (λ (r : Bool). r ≡ widthOk w)
-  pub construction-ok : (c : ℕ) → One (λ (r : Bool). r ≡ constructionOk c)
-  pub open-refusal : (w c : ℕ) → One (λ (r : ℕ). r ≡ openNo w c)
-  pub depth-of : (w c : ℕ) → One (λ (r : ℕ). r ≡ depthOf w c)
-  pub row : (w c L : ℕ) → One (λ (r : List ℕ). r ≡ rowArray w c L)
-  -- sheets; of a view that is refused, the place of no bytes is left open
-  pub sheet : (w c : ℕ) (before : List ℕ) → OneWith (λ (r : Filled) after. SheetIs w c before after r)
-  pub view-refusal : (w c L n : ℕ) → One (λ (r : ℕ). r ≡ viewNo w c L n)
-  pub view : (w c L : ℕ) (sheet : List ℕ) (at : ℕ × ℕ) → One (λ (row : List ℕ). (p : ℕ × ℕ) × ViewIs w c L sheet at row p)
-  pub view-place : (w c L : ℕ) (sheet row : List ℕ) (at : ℕ × ℕ) → viewNo w c L (length sheet) ≡ 0 → One (λ (p : ℕ × ℕ). ViewIs w c L sheet at row p)
+  pub width-ok : One network.width_ok.ended network.width_ok.Reads.Learnt
+  pub construction-ok : One network.construction_ok.ended network.construction_ok.Reads.Learnt
+  pub open-refusal : One network.open_refusal.ended network.open_refusal.Reads.Learnt
+  pub depth-of : One network.depth_of.ended network.depth_of.Reads.Learnt
+  pub row : One network.row.ended network.row.Reads.Learnt
+  pub place-of : One network.place_of.ended network.place_of.Reads.Learnt
+  -- sheets; a view is the bytes that it shows and their place, and the place of no bytes is left open
+  pub sheet : One sheets.sheet.ended sheets.sheet.Reads.Learnt
+  pub view-refusal : One sheets.view_refusal.ended sheets.view_refusal.Reads.Learnt
+  pub view : OneBy sheets.view.ended (λ κs r s. (now r ≡ now s) × ((now r ≡ [] → ⊥) → ptr r ≡ ptr s)) sheets.view.Reads.Learnt
   -- run
-  pub opening : (w c : ℕ) → One (λ (r : Opened). r ≡ openOf w c)
-  pub is-sound : (x : Run) → One (λ (r : Bool). r ≡ sound x)
-  pub enter : (x : Run) (t v : ℕ) → One (λ (r : Entered). r ≡ enterOf x t v)
-  pub turn : (x : Run) (t : ℕ) → One (λ (r : Turned). r ≡ turnOf x t)
+  pub opening : One run.Run.«open».ended run.Run.«open».Reads.Learnt
+  pub is-sound : One run.Run.is_sound.ended run.Run.is_sound.Reads.Learnt
+  pub enter : One run.Run.enter.ended run.Run.enter.Reads.Learnt
+  pub turn : One run.Run.turn.ended run.Run.turn.Reads.Learnt
   -- gaps
-  pub gap-list : (x : Run) (before : List ℕ) → OneWith (λ (r : Filled) after. GapsIs x before after r)
+  pub gap-list : One gaps.gap_list.ended gaps.gap_list.Reads.Learnt
   -- records
-  pub read : (s : List ℕ) → One (λ (r : Read). r ≡ readOf true s)
-  pub read-in-schedule : (s : List ℕ) → One (λ (r : Read). r ≡ readOf false s)
-  pub field-of-two : (s : List ℕ) (at : ℕ) → One (λ (r : ℕ). r ≡ field 2 s at)
-  pub field-of-four : (s : List ℕ) (at : ℕ) → One (λ (r : ℕ). r ≡ field 4 s at)
-  pub size-of : (x : Record) → One (λ (r : ℕ). r ≡ sizeOf x)
-  pub write : (x : Record) (before : List ℕ) → OneWith (λ (r : Filled) after. Writes x before r after)
+  pub read-record : One records.read_record.ended records.read_record.Reads.Learnt
+  pub read-in-schedule : One records.read_in_schedule.ended records.read_in_schedule.Reads.Learnt
+  pub field-of-two : One records.field_of_two.ended records.field_of_two.Reads.Learnt
+  pub field-of-four : One records.field_of_four.ended records.field_of_four.Reads.Learnt
+  pub size-of : One records.size_of.ended records.size_of.Reads.Learnt
+  pub write-record : One records.write_record.ended records.write_record.Reads.Learnt
   -- schedule
-  pub run : (s out : List ℕ) → OneWith (λ (r : Outcome) out′. Ran s out r out′)
+  pub run : One schedule.run.ended schedule.run.Reads.Learnt
+  -- feed_sheet
+  pub in-limits : One feed_sheet.in_limits.ended feed_sheet.in_limits.Reads.Learnt
+  pub is-unpaired : One feed_sheet.is_unpaired.ended feed_sheet.is_unpaired.Reads.Learnt
+  pub is-permutation : One feed_sheet.is_permutation.ended feed_sheet.is_permutation.Reads.Learnt
+  pub feed-refusal : One feed_sheet.refusal.ended feed_sheet.refusal.Reads.Learnt
+  pub fed-at : One feed_sheet.fed_at.ended feed_sheet.fed_at.Reads.Learnt
+  -- feeds
+  pub feed-opening : One feeds.FeedRun.«open».ended feeds.FeedRun.«open».Reads.Learnt
+  pub feed-is-sound : One feeds.FeedRun.is_sound.ended feeds.FeedRun.is_sound.Reads.Learnt
+  pub feed-enter : One feeds.FeedRun.enter.ended feeds.FeedRun.enter.Reads.Learnt
+  pub feed-turn : One feeds.FeedRun.turn.ended feeds.FeedRun.turn.Reads.Learnt
+  -- feed_gaps
+  pub feed-gap-list : One feed_gaps.gap_list.ended feed_gaps.gap_list.Reads.Learnt
+  -- panels
+  pub panel : One panels.read.ended panels.read.Reads.Learnt
   -- listing_text
-  pub listing : (s out : List ℕ) → OneWith (λ (r : Listed) out′. Lists s out r out′)
+  pub listing : One listing_text.listing.ended listing_text.listing.Reads.Learnt
+  -- trace_text
+  pub trace : One trace_text.trace.ended trace_text.trace.Reads.Learnt
+  -- panel_text
+  pub panel-text : One panel_text.panel.ended panel_text.panel.Reads.Learnt

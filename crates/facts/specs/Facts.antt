@@ -6,10 +6,10 @@ use Rattle.network.specs.Widths.{depthOf}
 use Rattle.network.specs.Rows.{rowOf, sheetOf}
 use Rattle.rest.specs.Share.{share}
 use Rattle.run.specs.Run.{openOf, enterOf}
-use Rattle.schedule.specs.declared.Outcome.the-variants.{Refused}
-use Rattle.schedule.specs.Whole.{runOf}
-use Rattle.schedule.specs.Case.{caseBytes}
-use Rattle.listing_text.specs.Text.{letters}
+use Rattle.outcome.specs.declared.Outcome.the-variants.{Refused}
+use Rattle.outcome.specs.Whole.{runOf}
+use Rattle.outcome.specs.Case.{caseBytes}
+use Rattle.text.specs.Text.{letters}
 use Rattle.listing_text.specs.Listing.{listingOf}
 use Rattle.promise.specs.History.{Call, enter, turn, Deal, history}
 

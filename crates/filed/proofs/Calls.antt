@@ -7,23 +7,25 @@ use Rattle.run.specs.declared.Run.{Run}
 use Rattle.run.specs.Run.{openOf}
 use Rattle.records.specs.declared.Record.{Record}
 use Rattle.records.specs.declared.Read.the-variants.{Got}
-use Rattle.schedule.specs.Schedule.{recordAt}
-use Rattle.schedule.proofs.Told.{record-none}
-use Rattle.promise.specs.History.{Call, Deal, After, callOf, callsOf, history}
+use Rattle.outcome.specs.Schedule.{recordAt}
+use Rattle.outcome.proofs.Told.{record-none}
+use Rattle.promise.specs.History.{Call, Deal, After, callOf, callsOf, callsBy, history}
 use Rattle.filed.specs.Calls.{callIn, callsRead, callsFrom}
 
 -- what comes of a call made after others
-abbrev then : After → Call → After
-then y call = record { run = callOf (y .run) call .run; deals = y .deals ++ callOf (y .run) call .deals }
+abbrev then : After Run → Call → After Run
+then y call =
+    let z = callOf (y .run) call in
+    record { run = z .run; entries = y .entries ++ z .entries; deals = y .deals ++ z .deals }
 
--- numbers dealt before
-abbrev before : List Deal → After → After
-before l y = record { run = y .run; deals = l ++ y .deals }
+-- entries and numbers dealt before
+abbrev before : List ℕ → List Deal → After Run → After Run
+before es l y = record { run = y .run; entries = es ++ y .entries; deals = l ++ y .deals }
 
 calls-more : (calls : List Call) (call : Call) (x : Run) → callsOf x (calls ++ (call ∷ [])) ≡ then (callsOf x calls) call
-unfolding callsOf
-calls-more [] call x = rw append-nil
-calls-more (first ∷ rest) call x = rw append-assoc (ap (before (callOf x first .deals)) (calls-more rest call (callOf x first .run)))
+unfolding callsOf callsBy
+calls-more [] call x = simp append-nil
+calls-more (first ∷ rest) call x = simp append-assoc (ap (before (callOf x first .entries) (callOf x first .deals)) (calls-more rest call (callOf x first .run)))
 
 pub history-more : (w c : ℕ) (calls : List Call) (call : Call) → history w c (calls ++ (call ∷ [])) ≡ then (history w c calls) call
 unfolding history

@@ -15,9 +15,9 @@ use Rattle.run.specs.declared.Run.{Run}
 use Rattle.run.specs.Run.{fresh, openOf, enterOf, turnOf}
 use Rattle.records.specs.declared.Record.{Record}
 use Rattle.records.specs.declared.Record.the-variants.{Open, Enter, Turn, Close, Number}
-use Rattle.schedule.specs.Course.{Course, course, atStart, Step}
-use Rattle.schedule.specs.Step.{closeNo, phaseNo, placeNo, servedOf, stepOf}
-use Rattle.promise.specs.History.{Call, enter, turn, callOf, callsOf, history}
+use Rattle.outcome.specs.Course.{Course, course, atStart, Step}
+use Rattle.outcome.specs.Step.{closeNo, phaseNo, placeNo, servedOf, stepOf}
+use Rattle.promise.specs.History.{Call, enter, turn, callOf, callsOf, callsBy, history}
 use Rattle.filed.specs.Calls.{callIn}
 use Rattle.filed.specs.Filed.{reportsOf}
 use Rattle.filed.proofs.Calls.{history-more}
@@ -30,7 +30,7 @@ pub record Reported (x : Run) (calls : List Call) (done : List ℕ) : Type 0 whe
   pub reports : done ≡ reportsOf (history (x .width) (x .construction) calls .deals)
 
 reported-open : (w c : ℕ) → openNo w c ≡ 0 → Reported (openOf w c .run) [] []
-unfolding openOf fresh history callsOf reportsOf
+unfolding openOf fresh history callsOf callsBy reportsOf
 reported-open w c h = let z = eq-eqb _ 0 h in rw z (record { allowed = h; run = rw z; reports = refl })
 
 -- a close that is not refused finds none inside

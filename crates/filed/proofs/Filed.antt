@@ -13,12 +13,12 @@ use Rattle.network.specs.Widths.{widthOk, constructionOk, openNo}
 use Rattle.board.specs.Sound.{insideSum}
 use Rattle.board.proofs.Lists.{cond-case}
 use Rattle.run.specs.declared.Run.{Run}
-use Rattle.schedule.specs.declared.Outcome.{Outcome}
-use Rattle.schedule.specs.declared.Outcome.the-variants.{Accepted, Refused}
-use Rattle.schedule.specs.Course.{Course, course, atStart, Step}
-use Rattle.schedule.specs.Schedule.{Told, stopped, accepted, tell}
-use Rattle.schedule.proofs.Told.{Fault, Stepped, told-from}
-use Rattle.schedule.specs.Whole.{settle, runOf, afterRun, outputOf, Values, valuesOf}
+use Rattle.outcome.specs.declared.Outcome.{Outcome}
+use Rattle.outcome.specs.declared.Outcome.the-variants.{Accepted, Refused}
+use Rattle.outcome.specs.Course.{Course, course, atStart, Step}
+use Rattle.outcome.specs.Schedule.{Told, stopped, accepted, tell}
+use Rattle.outcome.proofs.Told.{Fault, Stepped, told-from}
+use Rattle.outcome.specs.Whole.{settle, runOf, afterRun, outputOf, Values, valuesOf}
 use Rattle.promise.specs.History.{Call, Deal, history, times}
 use Rattle.promise.specs.Promise.{Promise}
 use Rattle.promise.proofs.Promise.{demand-3}

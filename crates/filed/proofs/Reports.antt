@@ -10,7 +10,7 @@ use Rattle.moves.specs.Answer.{valuesOf}
 use Rattle.records.specs.Reading.{lengthOf}
 use Rattle.records.specs.Writing.{sizeOf}
 use Rattle.records.proofs.Writing.{length-bytesOf}
-use Rattle.schedule.specs.Step.{reportOf}
+use Rattle.outcome.specs.Step.{reportOf}
 use Rattle.promise.specs.History.{Deal, dealOf}
 use Rattle.filed.specs.Filed.{reportsOf}
 
@@ -21,7 +21,7 @@ reports-append (d ∷ l) m = rw (append-assoc, reports-append l m)
 
 pub reports-dealOf : (t : ℕ) (a : Turn) → reportOf t a ≡ reportsOf (dealOf t (valuesOf a))
 unfolding reportOf reportsOf valuesOf
-reports-dealOf t (Passed l v) = refl
+reports-dealOf t (Passed l v L c o) = refl
 reports-dealOf t (Dealt i n) = rw append-nil
 reports-dealOf t (Refused k) = refl
 

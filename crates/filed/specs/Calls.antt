@@ -7,7 +7,7 @@ use Rattle.records.specs.declared.Record.{Record}
 use Rattle.records.specs.declared.Record.the-variants.{Open, Enter, Turn, Close, Number}
 use Rattle.records.specs.declared.Read.{Read}
 use Rattle.records.specs.declared.Read.the-variants.{Got, Refused as Unread}
-use Rattle.schedule.specs.Schedule.{recordAt}
+use Rattle.outcome.specs.Schedule.{recordAt}
 use Rattle.promise.specs.History.{Call, enter, turn}
 
 -- the call that a record makes: none for an open, a close or a report

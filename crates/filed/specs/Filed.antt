@@ -8,8 +8,8 @@ use Rattle.network.specs.Widths.{openNo}
 use Rattle.board.specs.Sound.{insideSum}
 use Rattle.records.specs.declared.Record.the-variants.{Number}
 use Rattle.records.specs.Writing.{bytesOf}
-use Rattle.schedule.specs.Schedule.{tell}
-use Rattle.schedule.specs.Whole.{runOf, outputOf, Values, valuesOf}
+use Rattle.outcome.specs.Schedule.{tell}
+use Rattle.outcome.specs.Whole.{runOf, outputOf, Values, valuesOf}
 use Rattle.promise.specs.History.{Call, Deal, history, times}
 use Rattle.filed.specs.Calls.{callsIn}
 

@@ -1,55 +1,57 @@
--- Laws of the call: a sound record can be walked over; the list of its counts is the record's; what each way out comes to.
--- Assumes nothing.
+-- Laws of the call: a sound record has few entered and can be walked over; the list of its counts is the record's; what each way
+-- out comes to. Assumes nothing.
 use Prim.Native.Nat.{ℕ, _≤_, _<_}
-use mathlib.Core.Path.{_≡_}
-use mathlib.Core.Bool.{true, false}
+use mathlib.Core.Path.{_≡_, refl}
+use mathlib.Core.Bool.{Bool, true, false}
 use mathlib.Core.List.{List}
 use native.Mathlib.Omega.{arith}
 use borrow.Author.Tests.{lt-ltb, le-ltb}
 use lib.ListN.{length}
 use Rattle.order.specs.declared.Filled.{Filled}
 use Rattle.order.specs.Order.{firstOf, over}
-use Rattle.network.proofs.Widths.{width-some, width-small}
-use Rattle.board.specs.Board.{countAt}
-use Rattle.board.proofs.Sound.{parts as board-parts, count-le}
-use Rattle.run.specs.declared.Run.{Run}
-use Rattle.run.specs.Run.{sound}
-use Rattle.run.proofs.Keeps.{parts}
-use Rattle.gaps.specs.Gaps.{highest, gapsBelow, gapsOf, gapsNo, GapsIs}
+use Rattle.board.specs.declared.Board.{Board}
+use Rattle.board.specs.Board.{maxEntered, countAt}
+use Rattle.board.specs.Sound.{soundBoard}
+use Rattle.board.proofs.Sound.{parts, count-le}
+use Rattle.gaps.specs.Gaps.{gapsBelow, gapsOf, gapsNo, GapsIs}
 use Rattle.gaps.specs.Counts.{ofCounts, CanWalk, roomNo, FillIs}
-use Rattle.gaps.proofs.Gaps.{highest-counts, gaps-counts}
+use Rattle.gaps.proofs.Gaps.{gaps-counts}
 
-module _ (x : Run) where
-  pub sound-walk : sound x ≡ true → CanWalk (x .width) (x .board .counts)
-  unfolding countAt
-  sound-walk h =
-      let p = parts x h in
-      record {
-        some = width-some (x .width) (p .width);
-        few = width-small (x .width) (p .width);
-        small = λ i. omega (arith, count-le _ _ (x .board) i (p .board), board-parts _ _ (x .board) (p .board) .few);
-      }
+module _ (w : ℕ) (x : Board) where
+  module _ (d : ℕ) (h : soundBoard w d x ≡ true) where
+    pub few-entered : x .entered ≤ maxEntered
+    few-entered = parts w d x h .few
+
+    pub can-walk : 0 < w → w ≤ 64 → CanWalk w (x .counts)
+    unfolding countAt
+    can-walk some most = record {
+      some = some;
+      few = most;
+      small = λ i. omega (arith, count-le w d x i h, few-entered);
+    }
 
   -- the list by the counts alone is the record's
-  pub gaps-of : (n : ℕ) → n ≡ highest (x .width) (ofCounts (x .board .counts)) (x .width) → gapsBelow (x .width) (ofCounts (x .board .counts)) n ≡ gapsOf x
+  pub gaps-of : gapsBelow w (ofCounts (x .counts)) (x .entered) ≡ gapsOf w x
   unfolding gapsOf
-  gaps-of n e = rw (e, highest-counts, gaps-counts)
+  gaps-of = gaps-counts w x (x .entered)
 
   -- a sound record is refused for its room alone
-  gapsNo-sound : sound x ≡ true → (room : ℕ) → gapsNo x room ≡ roomNo (gapsOf x) room
+  gapsNo-sound : (room : ℕ) → gapsNo true w x room ≡ roomNo (gapsOf w x) room
   unfolding gapsNo roomNo firstOf
-  gapsNo-sound h room = rw h
+  gapsNo-sound room = refl
 
-  pub gaps-unsound : sound x ≡ false → (before : List ℕ) → GapsIs x before before (record { refusal = 9; filled = 0 })
-  unfolding gapsNo firstOf
-  gaps-unsound h before = record { answer = rw h; numbers = rw h }
+  module _ {good : Bool} where
+    pub gaps-unsound : good ≡ false → (before : List ℕ) → GapsIs good w x before before (record { refusal = 9; filled = 0 })
+    unfolding gapsNo firstOf
+    gaps-unsound h before = record { answer = rw h; numbers = rw h }
 
-  pub gaps-sound : sound x ≡ true → {l before after : List ℕ} {r : Filled} → l ≡ gapsOf x → FillIs l before after r → GapsIs x before after r
-  gaps-sound h {l} {before} e f =
-      record {
-        answer = rw (gapsNo-sound h (length before), ← e) (f .answer);
-        numbers = rw (gapsNo-sound h (length before), ← e) (f .numbers);
-      }
+    pub gaps-sound : good ≡ true → {l before after : List ℕ} {r : Filled} → l ≡ gapsOf w x → FillIs l before after r
+        → GapsIs good w x before after r
+    gaps-sound h {l} {before} e f =
+        record {
+          answer = rw (h, gapsNo-sound (length before), ← e) (f .answer);
+          numbers = rw (h, gapsNo-sound (length before), ← e) (f .numbers);
+        }
 
 -- ---- a list into lent numbers
 module _ (l before : List ℕ) where

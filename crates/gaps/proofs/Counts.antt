@@ -1,53 +1,20 @@
--- Laws of the walks over the exits and over the numbers. In order: numbers are small; one exit more; the shares are small; a
--- number more is written; the walk over the numbers. Assumes nothing.
-use Prim.Native.Nat.{ℕ, zero, suc, _+_, _-_, _*_, _/_, _%_, _≤_, _<_}
+-- Laws of the walks over the exits and over the numbers. In order: the shares are small; a number more is written; the walk over
+-- the numbers. Assumes nothing.
+use Prim.Native.Nat.{ℕ, suc, _+_, _-_, _/_, _%_, _≤_, _<_}
 use mathlib.Core.Path.{_≡_, refl, ap}
-use mathlib.Core.Bool.{Bool, true, false, cond}
 use mathlib.Core.List.{List, [], _∷_, _++_, append-assoc}
-use native.Mathlib.Nat.{mul-le-mul, mul-suc, div-le-self}
-use native.Mathlib.Decide.{ℕ-discrete}
+use native.Mathlib.Nat.{div-le-self}
 use native.Mathlib.Omega.{arith}
 use native.Mathlib.Numerals.{add-one}
-use borrow.Author.Tests.{eq-eqb, ne-eqb, le-leb, lt-leb}
-use lib.Dec.{leb, eqb}
+use borrow.Author.Tests.{le-leb, lt-leb}
 use lib.ListN.{length, getD, set, length-append, length-set}
 use lib.Seq.{drop-cons, set-append-seam}
 use Rattle.order.specs.Order.{over}
 use Rattle.board.specs.Board.{countAt}
-use Rattle.moves.specs.Turn.{numberAt}
 use Rattle.rest.specs.Share.{share}
-use Rattle.gaps.specs.Gaps.{missing, larger, highestAt, highest, gapsBelow}
-use Rattle.gaps.specs.Counts.{ofCounts, CanWalk}
+use Rattle.gaps.specs.Gaps.{missing, gapsBelow}
+use Rattle.gaps.specs.Counts.{ofCounts}
 use Rattle.gaps.proofs.Gaps.{gaps-more, gaps-same, length-gaps-mono}
-
--- ---- numbers are small
-pub number-small : {w i c : ℕ} → w ≤ 64 → i < w → suc c ≤ 1000000 → i + w * c < 64000000
-number-small {w} {i} {c} few l m = omega (arith, mul-le-mul few m, mul-suc w c)
-
-larger-small : (b : Bool) {m n k : ℕ} → m ≤ k → n ≤ k → cond b m n ≤ k
-larger-small true l r = l
-larger-small false l r = r
-
-module _ {w : ℕ} {counts : List ℕ} (can : CanWalk w counts) where
-  highestAt-small : (i : ℕ) → i < w → highestAt w (ofCounts counts) i ≤ 64000000
-  unfolding highestAt countAt
-  highestAt-small i l = elim (ℕ-discrete (getD counts i 0) 0) [
-    | yes e ↦ rw (eq-eqb (getD counts i 0) 0 e) (omega arith)
-    | no d ↦
-        rw (ne-eqb (getD counts i 0) 0 d)
-        (omega (arith, number-small {i = i} {c = getD counts i 0 - 1} (can .few) l (omega (arith, can .small i))))
-  ]
-
-  pub highest-small : (n : ℕ) → n ≤ w → highest w (ofCounts counts) n ≤ 64000000
-  unfolding highest
-  highest-small zero l = omega arith
-  highest-small (suc n) l = larger-small (leb (highest w (ofCounts counts) n) (highestAt w (ofCounts counts) n)) (highestAt-small n l) (highest-small n (omega arith))
-
--- ---- one exit more
-pub highest-more : (w : ℕ) (counts : List ℕ) (i top here r : ℕ) → top ≡ highest w (ofCounts counts) i
-    → here ≡ cond (eqb (getD counts i 0) 0) 0 (numberAt w i (getD counts i 0 - 1)) → r ≡ larger top here → r ≡ highest w (ofCounts counts) (i + 1)
-unfolding highest highestAt countAt
-highest-more w counts i top here r p q e = rw (add-one i, e, p, q)
 
 -- ---- the shares are small
 pub share-small : (n i w : ℕ) → share n i w ≤ n + w

@@ -16,7 +16,7 @@ use Rattle.rest.specs.Sum.{sum}
 use Rattle.rest.specs.Share.{share}
 use Rattle.rest.proofs.Sum.{sum-change, sum-zero}
 use Rattle.rest.proofs.Share.{share-zero, share-other, share-own, share-at}
-use Rattle.gaps.specs.Gaps.{missing, highestAt, highest, gapsBelow}
+use Rattle.gaps.specs.Gaps.{missing, gapsBelow}
 use Rattle.gaps.specs.Counts.{ofCounts}
 
 -- what an exit with count c is short of q numbers, and of one more
@@ -32,11 +32,6 @@ length-cond false n = refl
 
 module _ (w : ℕ) (x : Board) where
   -- ---- only the exit counts matter
-  pub highest-counts : (n : ℕ) → highest w (ofCounts (x .counts)) n ≡ highest w x n
-  unfolding highest highestAt countAt
-  highest-counts zero = refl
-  highest-counts (suc n) = rw (highest-counts n)
-
   pub gaps-counts : (n : ℕ) → gapsBelow w (ofCounts (x .counts)) n ≡ gapsBelow w x n
   unfolding gapsBelow missing countAt
   gaps-counts zero = refl

@@ -8,6 +8,7 @@ use lib.ListN.{length, getD}
 use Rattle.order.specs.declared.Filled.{Filled}
 use Rattle.order.specs.Order.{_⟶_, firstOf, filledOf, over}
 use Rattle.board.specs.declared.Board.{Board}
+use Rattle.board.specs.Board.{maxEntered}
 
 -- a board of which only the exit counts matter
 abbrev pub ofCounts : List ℕ → Board
@@ -17,7 +18,7 @@ ofCounts counts = record { entered = 0; counts = counts; toggles = []; places = 
 pub record CanWalk (w : ℕ) (counts : List ℕ) : Type 0 where
   pub some : 0 < w
   pub few : w ≤ 64
-  pub small : (i : ℕ) → getD counts i 0 ≤ 1000000
+  pub small : (i : ℕ) → getD counts i 0 ≤ maxEntered
 
 -- a list into lent numbers: 17 output room too small
 unfoldable pub roomNo : List ℕ → ℕ → ℕ

@@ -1,50 +1,18 @@
-// The gap list of a run: the missing numbers below the highest number dealt. Numbers are below 64,000,000 where the record is
-// sound. The list's length is worked out from the shares of the exits, so that a slice that is too short is refused before
-// anything is written; the list is then written in one walk over the numbers.
+// The gap list of a run: the missing numbers below entered, which is at most 1,000,000 where the record is sound. The list's
+// length is worked out from the shares of the exits, so that a slice that is too short is refused before anything is written; the
+// list is then written in one walk over the numbers.
+use board::EXITS;
 use order::Filled;
 use run::Run;
 ghost use mathlib.Core.Path.{_≡_};
-ghost use mathlib.Core.Bool.{cond};
 ghost use Prim.Native.Nat.{_-_, _≤_, _<_};
-ghost use lib.Dec.{eqb};
 ghost use lib.ListN.{length};
 ghost use Rattle.order.specs.Order.{over};
-ghost use Rattle.moves.specs.Turn.{numberAt};
+ghost use Rattle.board.specs.Board.{maxEntered};
 ghost use Rattle.rest.specs.Share.{share};
-ghost use Rattle.gaps.specs.Gaps.{larger, highest, gapsBelow, GapsIs};
+ghost use Rattle.run.specs.Run.{sound};
+ghost use Rattle.gaps.specs.Gaps.{gapsBelow, GapsIs};
 ghost use Rattle.gaps.specs.Counts.{ofCounts, CanWalk, FillIs};
-
-// The highest number that an exit with this count has dealt, and 0 where it has dealt none.
-fn highest_at(w: usize, exit: usize, count: usize) -> usize
-    requires { ⌜ (w ≤ 64) × (exit < w) × (count ≤ 1000000) ⌝ }
-    ensures { λ r. ⌜ r ≡ cond (eqb count 0) 0 (numberAt w exit (count - 1)) ⌝ }
-{
-    if count == 0 {
-        return 0;
-    }
-    let before = w * (count - 1);
-    exit + before
-}
-
-fn larger_of(a: usize, b: usize) -> usize
-    ensures { λ r. ⌜ r ≡ larger a b ⌝ }
-{
-    if a <= b { b } else { a }
-}
-
-// The highest number dealt, and 0 where nothing is dealt.
-fn highest_of(w: usize, counts: &[u32; 64]) -> usize
-    requires { ⌜ CanWalk w (now counts) ⌝ }
-    ensures { λ r. ⌜ r ≡ highest w (ofCounts (now (counts .entry))) w ⌝ }
-{
-    let mut top: usize = 0;
-    let mut i: usize = 0;
-    while i < w {
-        top = larger_of(top, highest_at(w, i, counts[i] as usize));
-        i += 1;
-    }
-    top
-}
 
 // What is left of a, less b; 0 where b is more.
 fn left_of(a: usize, b: usize) -> usize
@@ -55,7 +23,7 @@ fn left_of(a: usize, b: usize) -> usize
 
 // How many numbers an exit with this count is short of its share of the numbers below n.
 fn short_of(w: usize, n: usize, exit: usize, count: usize) -> usize
-    requires { ⌜ (0 < w) × (w ≤ 64) × (n ≤ 64000000) ⌝ }
+    requires { ⌜ (0 < w) × (w ≤ 64) × (n ≤ maxEntered) ⌝ }
     ensures { λ r. ⌜ r ≡ share n exit w - count ⌝ }
 {
     let due = (left_of(n, exit) + (w - 1)) / w;
@@ -63,8 +31,8 @@ fn short_of(w: usize, n: usize, exit: usize, count: usize) -> usize
 }
 
 // How many numbers below n are missing.
-fn missing_below(w: usize, counts: &[u32; 64], n: usize) -> usize
-    requires { ⌜ CanWalk w (now counts) × (n ≤ 64000000) ⌝ }
+fn missing_below(w: usize, counts: &[u32; EXITS], n: usize) -> usize
+    requires { ⌜ CanWalk w (now counts) × (n ≤ maxEntered) ⌝ }
     ensures { λ r. ⌜ r ≡ length (gapsBelow w (ofCounts (now (counts .entry))) n) ⌝ }
 {
     let mut total: usize = 0;
@@ -77,8 +45,8 @@ fn missing_below(w: usize, counts: &[u32; 64], n: usize) -> usize
 }
 
 // The missing numbers below n, rising, in front of what is lent.
-fn write_missing(w: usize, counts: &[u32; 64], n: usize, out: &mut [u32])
-    requires { ⌜ CanWalk w (now counts) × (n ≤ 64000000) × (length (gapsBelow w (ofCounts (now counts)) n) ≤ length (now out)) ⌝ }
+fn write_missing(w: usize, counts: &[u32; EXITS], n: usize, out: &mut [u32])
+    requires { ⌜ CanWalk w (now counts) × (n ≤ maxEntered) × (length (gapsBelow w (ofCounts (now counts)) n) ≤ length (now out)) ⌝ }
     ensures { λ r. ⌜ now (out .exit) ≡ over (gapsBelow w (ofCounts (now (counts .entry))) n) (now (out .entry)) ⌝ }
 {
     let mut at: usize = 0;
@@ -93,9 +61,9 @@ fn write_missing(w: usize, counts: &[u32; 64], n: usize, out: &mut [u32])
     }
 }
 
-// The missing numbers below n, in front of what is lent: 17 where there is no room for them.
-fn fill(w: usize, counts: &[u32; 64], n: usize, out: &mut [u32]) -> Filled
-    requires { ⌜ CanWalk w (now counts) × (n ≤ 64000000) ⌝ }
+// The missing numbers below n, in front of what is lent: 17 where there is no room for them. Who calls has judged the record sound.
+pub fn fill(w: usize, counts: &[u32; EXITS], n: usize, out: &mut [u32]) -> Filled
+    requires { ⌜ CanWalk w (now counts) × (n ≤ maxEntered) ⌝ }
     ensures { λ r. ⌜ FillIs (gapsBelow w (ofCounts (now (counts .entry))) n) (now (out .entry)) (now (out .exit)) r ⌝ }
 {
     let filled = missing_below(w, counts, n);
@@ -111,7 +79,7 @@ fn fill(w: usize, counts: &[u32; 64], n: usize, out: &mut [u32]) -> Filled
 
 // The gap list of a run, in front of what is lent: 9, 17.
 pub fn gap_list(run: Run, out: &mut [u32]) -> Filled
-    ensures { λ r. ⌜ GapsIs run (now (out .entry)) (now (out .exit)) r ⌝ }
+    ensures { λ r. ⌜ GapsIs (sound run) (run .width) (run .board) (now (out .entry)) (now (out .exit)) r ⌝ }
 {
     let good = run.is_sound();
     if !good {
@@ -121,6 +89,6 @@ pub fn gap_list(run: Run, out: &mut [u32]) -> Filled
         };
     }
     let w = run.width as usize;
-    let n = highest_of(w, &run.board.counts);
+    let n = run.board.entered as usize;
     fill(w, &run.board.counts, n, out)
 }

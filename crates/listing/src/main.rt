@@ -3,12 +3,12 @@
 ghost use mathlib.Core.Path.{_≡_};
 ghost use Prim.Native.Nat.{_≤_};
 ghost use lib.ListN.{length};
-ghost use Rattle.listing_text.specs.Listing.{Whole};
+ghost use Rattle.listing_text.specs.Listing.{listingOf, Whole};
 
 // Fills the listing into a buffer that has room for every one, and answers its length.
 fn list_all(bytes: &[u8], out: &mut [u8]) -> usize
     requires { ⌜ 350000 ≤ length (now out) ⌝ }
-    ensures { λ r. ⌜ Whole (now (bytes .entry)) (now (out .entry)) r (now (out .exit)) ⌝ }
+    ensures { λ r. ⌜ Whole (listingOf (now (bytes .entry))) (now (out .entry)) r (now (out .exit)) ⌝ }
 {
     let listed = listing_text::listing(bytes, out);
     listed.bytes

@@ -5,9 +5,10 @@ use lib.Dec.{lit≤}
 use Rattle.records.specs.Fields.{spelt, bytesIn}
 use Rattle.records.specs.Reading.{lengthOf}
 use Rattle.records.specs.Writing.{sizeOf, bytesOf}
-use Rattle.schedule.specs.Case.{caseBytes}
-use Rattle.schedule.proofs.Cases.{case-outcome, case-reports, empty-schedule}
-use Rattle.listing_text.specs.Text.{letters, digits, decimal}
+use Rattle.outcome.specs.Case.{caseBytes}
+use Rattle.outcome.proofs.Cases.{case-outcome, case-reports, empty-schedule}
+use Rattle.text.specs.Text.{letters}
+use Rattle.text.specs.Numbers.{digits, decimal}
 use Rattle.listing_text.specs.Lines.{three, refusedLine, nameOf, networkLine, reportLines, restLine}
 use Rattle.listing_text.specs.Listing.{acceptedText, textOf, listingOf}
 use Rattle.listing_text.proofs.Told.{run-more}

@@ -1,5 +1,4 @@
-mod Text
 mod Lines
-mod Told
+pub mod Told
 pub mod Whole
 pub mod Cases

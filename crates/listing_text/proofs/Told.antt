@@ -1,4 +1,5 @@
--- However a schedule ends: it is stopped or accepted, and where it is accepted the outcome's bytes are those of its reports.
+-- However a schedule ends: it is stopped or accepted, and where it is accepted the outcome's bytes are those of its reports, and the
+-- schedule is not too long.
 -- Assumes nothing.
 use Prim.Native.Nat.{ℕ, suc, _≤_}
 use mathlib.Core.Path.{_≡_, refl, sym}
@@ -7,13 +8,13 @@ use mathlib.Core.List.{List, []}
 use native.Mathlib.Omega.{arith}
 use lib.ListN.{length}
 use lib.Dec.{ltb, leb}
-use borrow.Author.Tests.{leb-true, le-leb}
-use Rattle.schedule.specs.declared.Outcome.{Outcome}
-use Rattle.schedule.specs.declared.Outcome.the-variants.{Accepted, Refused}
-use Rattle.schedule.specs.Course.{Course, atStart}
-use Rattle.schedule.specs.Schedule.{Told, stopped, accepted, tell}
-use Rattle.schedule.proofs.Told.{Fault, told-from}
-use Rattle.schedule.specs.Whole.{settle, runOf}
+use borrow.Author.Tests.{leb-true, le-leb, ltb-false}
+use Rattle.outcome.specs.declared.Outcome.{Outcome}
+use Rattle.outcome.specs.declared.Outcome.the-variants.{Accepted, Refused}
+use Rattle.outcome.specs.Course.{Course, atStart}
+use Rattle.outcome.specs.Schedule.{Told, stopped, accepted, tell}
+use Rattle.outcome.proofs.Told.{Fault, told-from}
+use Rattle.outcome.specs.Whole.{settle, runOf}
 
 -- ---- the bytes that an outcome tells
 pub record Bytes (t : Told) (room b : ℕ) : Type 0 where
@@ -61,6 +62,10 @@ pub run-bytes : (s : List ℕ) (room w c e b : ℕ) → runOf s room ≡ Accepte
 unfolding runOf
 run-bytes s room w c e b h =
     settled-bytes (tell s .outcome) (tell s .reports) room w c e b (all-told s) (short (ltb 65536 (length s)) _ w c e b h .1)
+
+pub run-short : (s : List ℕ) (room w c e b : ℕ) → runOf s room ≡ Accepted w c e b → length s ≤ 65536
+unfolding runOf
+run-short s room w c e b h = ltb-false _ _ (short (ltb 65536 (length s)) _ w c e b h .0)
 
 -- ---- more room gives the same
 settled-more : (o : Outcome) (reports : List ℕ) (room more w c e b : ℕ) → room ≤ more → settle (told o reports) room ≡ Accepted w c e b → settle (told o reports) more ≡ Accepted w c e b

@@ -1,28 +1,28 @@
 -- Laws of the whole listing. In order: the most bytes of a text; reports that stand in front of a longer buffer; the text of what
--- was run; the answers of the call. Assumes nothing.
-use Prim.Native.Nat.{ℕ, zero, suc, _+_, _*_, _/_, _≤_, _<_}
+-- was run; the answers of a call that gives a text. Assumes nothing.
+use Prim.Native.Nat.{ℕ, zero, suc, _+_, _*_, _/_, _^_, _≤_, _<_}
 use mathlib.Core.Path.{_≡_, refl, sym, _∙_, ap}
 use mathlib.Core.Bool.{Bool, true, false, cond}
 use mathlib.Core.List.{List, [], _∷_, _++_}
 use native.Mathlib.Omega.{arith}
-use native.Mathlib.Numerals.{add-one}
 use native.Mathlib.Nat.{zero-add}
-use lib.ListN.{length, drop, set, length-append, length-drop}
-use lib.Seq.{sets, sets-eq, drop-append-le, take-append-le}
+use lib.ListN.{length, drop, length-append, length-drop}
+use lib.Seq.{drop-append-le, take-append-le}
 use lib.Dec.{eqb}
 use borrow.Author.Tests.{lt-ltb, le-ltb}
 use Rattle.order.specs.Order.{firstOf}
 use Rattle.records.specs.Fields.{field}
 use Rattle.order.specs.Order.{over}
-use Rattle.schedule.specs.declared.Outcome.{Outcome}
-use Rattle.schedule.specs.declared.Outcome.the-variants.{Accepted, Refused}
-use Rattle.schedule.specs.Schedule.{tell}
-use Rattle.schedule.specs.Whole.{runOf, afterRun, outputOf, Ran}
+use Rattle.outcome.specs.declared.Outcome.{Outcome}
+use Rattle.outcome.specs.declared.Outcome.the-variants.{Accepted, Refused}
+use Rattle.outcome.specs.Schedule.{tell}
+use Rattle.outcome.specs.Whole.{runOf, afterRun, outputOf, Ran}
 use Rattle.listing_text.specs.declared.Listed.{Listed}
-use Rattle.listing_text.specs.Text.{letters, stored, Puts, Ends}
+use Rattle.text.specs.Text.{letters, stored, Puts}
+use Rattle.text.proofs.Text.{behind-is, stored-front}
+use Rattle.text.proofs.Numbers.{length-decimal}
 use Rattle.listing_text.specs.Lines.{refusedLine, nameOf, networkLine, reportLines, restLine}
 use Rattle.listing_text.specs.Listing.{acceptedText, textOf, listingOf, listNo, listOf, listedOf, Lists, Whole}
-use Rattle.listing_text.proofs.Text.{length-decimal}
 use Rattle.listing_text.proofs.Lines.{length-three, length-lines}
 use Rattle.listing_text.proofs.Told.{run-bytes}
 
@@ -35,21 +35,33 @@ length-name c = named (eqb c 1)
     named true = omega arith
     named false = omega arith
 
+pub length-network : (w c : ℕ) → length (networkLine w c) ≤ 38
+unfolding networkLine letters
+length-network w c = simp length-append (omega (arith, length-decimal w, length-name c))
+
+pub length-rest : (m : ℕ) → length (restLine m) ≤ 26
+unfolding restLine letters
+length-rest m = simp length-append (omega (arith, length-decimal m))
+
+pub length-refused : (n r o : ℕ) → length (refusedLine n r o) ≤ 71
+unfolding refusedLine letters
+length-refused n r o = omega (arith, length-three n r o .1)
+
 -- 5,461 reports have 65,536 bytes of room
 text-most : (o : Outcome) (reports : List ℕ) → ((w c e b : ℕ) → o ≡ Accepted w c e b → b ≤ 65536) → length (textOf o reports) ≤ 350000
-unfolding textOf acceptedText networkLine restLine refusedLine letters
+unfolding textOf acceptedText
 text-most (Accepted w c e b) reports few =
     let small = few w c e b refl in
     let lines = length-lines (b / 12) reports 0 .1 in
-    let line = length-decimal w in
-    let last = length-decimal e in
-    let name = length-name c in
-    simp length-append (omega arith)
-text-most (Refused k n at) reports few = omega (arith, length-three k n at .1)
+    simp length-append (omega (arith, length-network w c, length-rest e))
+text-most (Refused k n at) reports few = omega (arith, length-refused k n at)
 
 pub listing-most : (s : List ℕ) → length (listingOf s) ≤ 350000
 unfolding listingOf
 listing-most s = text-most (runOf s 65536) (tell s .reports) (λ w c e b h. run-bytes s 65536 w c e b h .within)
+
+pub listing-few : (s : List ℕ) → length (listingOf s) < 2 ^ 64
+listing-few s = omega (arith, listing-most s)
 
 -- ---- reports in front of a longer buffer
 field-append : (n : ℕ) (s t : List ℕ) (at : ℕ) → at + n ≤ length s → field n (s ++ t) at ≡ field n s at
@@ -74,6 +86,10 @@ text-after (Accepted w c e b) reports out all =
     ap (λ (lines : List ℕ). networkLine w c ++ (lines ++ restLine e)) (lines-append (b / 12) reports (drop (length reports) out) 0 (omega arith))
 text-after (Refused k n at) reports out all = refl
 
+-- the place behind a text that is put in front is the room that it wants
+pub text-wanted : {text before after : List ℕ} {next : ℕ} → length text < 2 ^ 64 → Puts text 0 before next after → next ≡ length text
+text-wanted {text} few p = p .place ∙ behind-is 0 text (rw (zero-add (length text)) few) ∙ zero-add _
+
 -- ---- the text of what was run into a buffer of the program's own
 module _ {s buffer reports : List ℕ} {o : Outcome} (room : length buffer ≡ 65536) (ran : Ran s buffer o reports) where
   ran-text : listingOf s ≡ textOf o reports
@@ -82,45 +98,33 @@ module _ {s buffer reports : List ℕ} {o : Outcome} (room : length buffer ≡ 6
       rw (ran .outcome, ran .output, room)
       (sym (text-after (runOf s 65536) (tell s .reports) buffer (λ w c e b h. run-bytes s 65536 w c e b h .all)))
 
-  pub ran-ends : Ends (textOf o reports) 0
-  ran-ends = record { within = rw (← ran-text) (omega (arith, listing-most s)) }
-
   module _ {before after : List ℕ} {next : ℕ} (p : Puts (textOf o reports) 0 before next after) where
     pub wanted-is : next ≡ length (listingOf s)
-    wanted-is = rw ran-text (omega (arith, p .place))
+    wanted-is = rw ran-text (text-wanted (rw (← ran-text) (listing-few s)) p)
 
     pub filled-is : after ≡ stored before 0 (listingOf s)
     filled-is = rw ran-text (p .buffer)
 
--- ---- the call
-stored-sets : (out : List ℕ) (at : ℕ) (text : List ℕ) → stored out at text ≡ sets out at text
-unfolding stored
-stored-sets out at [] = refl
-stored-sets out at (b ∷ text) = rw (add-one at) (stored-sets (set out at b) (suc at) text)
-
-stored-front : (out text : List ℕ) → length text ≤ length out → stored out 0 text ≡ over text out
-stored-front out text h = stored-sets out 0 text ∙ (sets-eq text out 0 (omega arith) ∙ rw (zero-add (length text)))
-
-module _ (s out : List ℕ) (wanted : ℕ) (is-length : wanted ≡ length (listingOf s)) where
-  pub lists-none : length out < wanted → Lists s out (record { refusal = 17; bytes = 0; wanted = wanted }) out
+-- ---- a call that gives a text
+module _ (text out : List ℕ) (wanted : ℕ) (is-length : wanted ≡ length text) where
+  pub lists-none : length out < wanted → Lists text out (record { refusal = 17; bytes = 0; wanted = wanted }) out
   unfolding listNo listOf listedOf firstOf
   lists-none short = record { answer = rw (← is-length, lt-ltb _ _ short); buffer = rw (← is-length, lt-ltb _ _ short) }
 
-  pub lists-all : (after : List ℕ) → wanted ≤ length out → after ≡ stored out 0 (listingOf s) → Lists s out (record { refusal = 0; bytes = wanted; wanted = wanted }) after
+  pub lists-all : length text < 2 ^ 64 → (after : List ℕ) → wanted ≤ length out → after ≡ stored out 0 text → Lists text out (record { refusal = 0; bytes = wanted; wanted = wanted }) after
   unfolding listNo listOf listedOf firstOf
-  lists-all after fits e =
+  lists-all few after fits e =
       record {
         answer = rw (← is-length, le-ltb _ _ fits);
-        buffer = rw (le-ltb _ _ (rw is-length at fits)) (e ∙ stored-front out (listingOf s) (rw is-length at fits));
+        buffer = rw (le-ltb _ _ (rw is-length at fits)) (e ∙ stored-front out text (rw is-length at fits) few);
       }
 
--- with room for every listing
-pub lists-whole : {s out after : List ℕ} {r : Listed} → 350000 ≤ length out → Lists s out r after → Whole s out (r .bytes) after
+-- with room for the text
+pub lists-whole : {text out after : List ℕ} {r : Listed} → length text ≤ length out → Lists text out r after → Whole text out (r .bytes) after
 unfolding listNo listOf listedOf firstOf
-lists-whole {s} {out} room l =
-    let fits : length (listingOf s) ≤ length out = omega (arith, listing-most s) in
+lists-whole {text} {out} fits l =
     record { size = rw (l .answer, le-ltb _ _ fits); buffer = l .buffer ∙ rw (le-ltb _ _ fits) }
 
-pub whole-within : {s out after : List ℕ} {n : ℕ} → Whole s out n after → n ≤ length after
-whole-within {s} {out} w =
-    rw (w .size, w .buffer, length-append (listingOf s) (drop (length (listingOf s)) out)) (omega arith)
+pub whole-within : {text out after : List ℕ} {n : ℕ} → Whole text out n after → n ≤ length after
+whole-within {text} {out} w =
+    rw (w .size, w .buffer, length-append text (drop (length text) out)) (omega arith)

@@ -4,7 +4,8 @@ use mathlib.Core.Bool.{cond}
 use mathlib.Core.List.{List, [], _++_}
 use lib.Dec.{eqb}
 use Rattle.records.specs.Fields.{field}
-use Rattle.listing_text.specs.Text.{letters, decimal}
+use Rattle.text.specs.Text.{letters}
+use Rattle.text.specs.Numbers.{decimal}
 
 -- three numbers and the line feed, one blank between two
 unfoldable pub three : ℕ → ℕ → ℕ → List ℕ

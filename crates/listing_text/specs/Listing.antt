@@ -1,4 +1,4 @@
--- What the listing program writes for a schedule (01, "Listing program"), and the call that gives it.
+-- What the listing program writes for a schedule (01, "Listing program"), and what a call that gives a text leaves.
 -- Definitions only. Assumes nothing.
 use Prim.Native.Nat.{ℕ, _/_}
 use mathlib.Core.Path.{_≡_}
@@ -8,10 +8,10 @@ use lib.ListN.{length}
 use lib.Dec.{ltb, eqb}
 use Rattle.order.specs.Order.{_⟶_, firstOf}
 use Rattle.order.specs.Order.{over}
-use Rattle.schedule.specs.declared.Outcome.{Outcome}
-use Rattle.schedule.specs.declared.Outcome.the-variants.{Accepted, Refused}
-use Rattle.schedule.specs.Schedule.{tell}
-use Rattle.schedule.specs.Whole.{runOf}
+use Rattle.outcome.specs.declared.Outcome.{Outcome}
+use Rattle.outcome.specs.declared.Outcome.the-variants.{Accepted, Refused}
+use Rattle.outcome.specs.Schedule.{tell}
+use Rattle.outcome.specs.Whole.{runOf}
 use Rattle.listing_text.specs.declared.Listed.{Listed}
 use Rattle.listing_text.specs.Lines.{refusedLine, networkLine, reportLines, restLine}
 
@@ -27,26 +27,27 @@ textOf (Refused k n at) reports = refusedLine k n at
 unfoldable pub listingOf : List ℕ → List ℕ
 listingOf s = textOf (runOf s 65536) (tell s .reports)
 
--- ---- the call: 17 where the room is smaller than the text; else the text stands in front, and the rest of the buffer stays
+-- ---- a call that gives a text: 17 where the room is smaller than the text; else the text stands in front, and the rest of the
+-- buffer stays
 unfoldable pub listNo : List ℕ → ℕ → ℕ
-listNo s room = firstOf ((ltb room (length (listingOf s)) ⟶ 17) ∷ [])
+listNo text room = firstOf ((ltb room (length text) ⟶ 17) ∷ [])
 
 unfoldable pub listOf : List ℕ → ℕ → Listed
-listOf s room =
+listOf text room =
     record {
-      refusal = listNo s room;
-      bytes = cond (eqb (listNo s room) 0) (length (listingOf s)) 0;
-      wanted = length (listingOf s);
+      refusal = listNo text room;
+      bytes = cond (eqb (listNo text room) 0) (length text) 0;
+      wanted = length text;
     }
 
 unfoldable pub listedOf : List ℕ → List ℕ → List ℕ
-listedOf s out = cond (eqb (listNo s (length out)) 0) (over (listingOf s) out) out
+listedOf text out = cond (eqb (listNo text (length out)) 0) (over text out) out
 
-pub record Lists (s before : List ℕ) (r : Listed) (after : List ℕ) : Type 0 where
-  pub answer : r ≡ listOf s (length before)
-  pub buffer : after ≡ listedOf s before
+pub record Lists (text before : List ℕ) (r : Listed) (after : List ℕ) : Type 0 where
+  pub answer : r ≡ listOf text (length before)
+  pub buffer : after ≡ listedOf text before
 
--- the whole listing in front of the buffer, and its length
-pub record Whole (s before : List ℕ) (n : ℕ) (after : List ℕ) : Type 0 where
-  pub size : n ≡ length (listingOf s)
-  pub buffer : after ≡ over (listingOf s) before
+-- the whole text in front of the buffer, and its length
+pub record Whole (text before : List ℕ) (n : ℕ) (after : List ℕ) : Type 0 where
+  pub size : n ≡ length text
+  pub buffer : after ≡ over text before

@@ -1,108 +1,57 @@
-// The text that the listing program writes. Each `put` lets its text go into a lent buffer from a place on, as far as the
-// buffer goes, and answers the place behind it: on a buffer of no use it so tells how much room the text wants.
+// The text that the listing program writes. Each `put` lets its text go into a lent buffer as those of `text` do, and answers the
+// place behind it: on a buffer of no use it so tells how much room the text wants.
 ghost use mathlib.Core.Path.{_≡_};
-ghost use mathlib.Core.List.{_++_, _∷_, []};
-ghost use Rattle.listing_text.specs.Text.{decimal, Puts, Ends};
+ghost use Prim.Native.Nat.{_/_};
+ghost use Rattle.text.specs.Text.{Puts};
 ghost use Rattle.listing_text.specs.Lines.{three, refusedLine, nameOf, networkLine, reportLines, restLine};
-ghost use Rattle.listing_text.specs.Listing.{acceptedText, textOf, Lists};
-use schedule::Outcome;
+ghost use Rattle.listing_text.specs.Listing.{acceptedText, textOf, listingOf, Lists};
+use outcome::Outcome;
 
-// What the listing answers: the refusal number, 0 where it was carried out, the bytes filled, and the room that the text wants.
+// What a call that gives a text answers: the refusal number, 0 where it was carried out, the bytes filled, and the room that the text wants.
 pub struct Listed {
     pub refusal: u8,
     pub bytes: usize,
     pub wanted: usize,
 }
 
-fn put_byte(out: &mut [u8], at: usize, b: u8) -> usize
-    requires { ⌜ Ends (b ∷ []) at ⌝ }
-    ensures { λ r. ⌜ Puts (b ∷ []) at (now (out .entry)) r (now (out .exit)) ⌝ }
-{
-    let next = at + 1;
-    if at < out.len() {
-        out[at] = b;
-        return next;
-    }
-    next
-}
-
-fn put_text(out: &mut [u8], at: usize, text: &[u8]) -> usize
-    requires { ⌜ Ends (now text) at ⌝ }
-    ensures { λ r. ⌜ Puts (now (text .entry)) at (now (out .entry)) r (now (out .exit)) ⌝ }
-{
-    let mut next = at;
-    let mut i = 0;
-    while i < text.len() {
-        next = put_byte(out, next, text[i]);
-        i += 1;
-    }
-    next
-}
-
-// The digits of the tenth, then the last one.
-fn put_decimal(out: &mut [u8], at: usize, x: usize) -> usize
-    requires { ⌜ Ends (decimal x) at ⌝ }
-    ensures { λ r. ⌜ Puts (decimal x) at (now (out .entry)) r (now (out .exit)) ⌝ }
-{
-    if x < 10 {
-        return put_byte(out, at, 48 + x as u8);
-    }
-    let next = put_decimal(out, at, x / 10);
-    put_byte(out, next, 48 + (x % 10) as u8)
-}
-
-// A number and the byte behind it.
-fn put_number(out: &mut [u8], at: usize, x: usize, end: u8) -> usize
-    requires { ⌜ Ends (decimal x ++ (end ∷ [])) at ⌝ }
-    ensures { λ r. ⌜ Puts (decimal x ++ (end ∷ [])) at (now (out .entry)) r (now (out .exit)) ⌝ }
-{
-    let next = put_decimal(out, at, x);
-    put_byte(out, next, end)
-}
-
 fn put_three(out: &mut [u8], at: usize, a: usize, b: usize, c: usize) -> usize
-    requires { ⌜ Ends (three a b c) at ⌝ }
     ensures { λ r. ⌜ Puts (three a b c) at (now (out .entry)) r (now (out .exit)) ⌝ }
 {
-    let second = put_number(out, at, a, b' ');
-    let third = put_number(out, second, b, b' ');
-    put_number(out, third, c, b'\n')
+    let second = text::put_number(out, at, a, b' ');
+    let third = text::put_number(out, second, b, b' ');
+    text::put_number(out, third, c, b'\n')
 }
 
-fn put_refused(out: &mut [u8], number: usize, index: usize, offset: usize) -> usize
-    requires { ⌜ Ends (refusedLine number index offset) 0 ⌝ }
+pub fn put_refused(out: &mut [u8], number: usize, index: usize, offset: usize) -> usize
     ensures { λ r. ⌜ Puts (refusedLine number index offset) 0 (now (out .entry)) r (now (out .exit)) ⌝ }
 {
-    let next = put_text(out, 0, b"refused ");
+    let next = text::put_text(out, 0, b"refused ");
     put_three(out, next, number, index, offset)
 }
 
 fn put_name(out: &mut [u8], at: usize, construction: u16) -> usize
-    requires { ⌜ Ends (nameOf construction) at ⌝ }
     ensures { λ r. ⌜ Puts (nameOf construction) at (now (out .entry)) r (now (out .exit)) ⌝ }
 {
     if construction == 1 {
-        return put_text(out, at, b"bitonic\n");
+        return text::put_text(out, at, b"bitonic\n");
     }
-    put_text(out, at, b"periodic\n")
+    text::put_text(out, at, b"periodic\n")
 }
 
-fn put_network(out: &mut [u8], width: usize, construction: u16) -> usize
-    requires { ⌜ Ends (networkLine width construction) 0 ⌝ }
+pub fn put_network(out: &mut [u8], width: usize, construction: u16) -> usize
     ensures { λ r. ⌜ Puts (networkLine width construction) 0 (now (out .entry)) r (now (out .exit)) ⌝ }
 {
-    let first = put_text(out, 0, b"network ");
-    let second = put_number(out, first, width, b' ');
+    let first = text::put_text(out, 0, b"network ");
+    let second = text::put_number(out, first, width, b' ');
     put_name(out, second, construction)
 }
 
-// A line for each of `count` reports.
-fn put_lines(out: &mut [u8], at: usize, reports: &[u8], count: usize) -> usize
-    requires { ⌜ Ends (reportLines count (now reports) 0) at ⌝ }
-    ensures { λ r. ⌜ Puts (reportLines count (now (reports .entry)) 0) at (now (out .entry)) r (now (out .exit)) ⌝ }
+// A line for each report of 12 bytes, of which there are so many bytes.
+fn put_lines(out: &mut [u8], at: usize, reports: &[u8], bytes: usize) -> usize
+    ensures { λ r. ⌜ Puts (reportLines (bytes / 12) (now (reports .entry)) 0) at (now (out .entry)) r (now (out .exit)) ⌝ }
 {
     let mut next = at;
-    let mut left = count;
+    let mut left = bytes / 12;
     let mut from = 0;
     while 0 < left {
         let token = records::field_of_two(reports, from + 4) as usize;
@@ -115,12 +64,11 @@ fn put_lines(out: &mut [u8], at: usize, reports: &[u8], count: usize) -> usize
     next
 }
 
-fn put_rest(out: &mut [u8], at: usize, entries: usize) -> usize
-    requires { ⌜ Ends (restLine entries) at ⌝ }
+pub fn put_rest(out: &mut [u8], at: usize, entries: usize) -> usize
     ensures { λ r. ⌜ Puts (restLine entries) at (now (out .entry)) r (now (out .exit)) ⌝ }
 {
-    let next = put_text(out, at, b"rest ");
-    put_number(out, next, entries, b'\n')
+    let next = text::put_text(out, at, b"rest ");
+    text::put_number(out, next, entries, b'\n')
 }
 
 fn put_accepted(
@@ -131,17 +79,15 @@ fn put_accepted(
     bytes: usize,
     reports: &[u8],
 ) -> usize
-    requires { ⌜ Ends (acceptedText width construction entries bytes (now reports)) 0 ⌝ }
     ensures { λ r. ⌜ Puts (acceptedText width construction entries bytes (now (reports .entry))) 0 (now (out .entry)) r (now (out .exit)) ⌝ }
 {
     let first = put_network(out, width as usize, construction);
-    let second = put_lines(out, first, reports, bytes / 12);
+    let second = put_lines(out, first, reports, bytes);
     put_rest(out, second, entries as usize)
 }
 
 // The text of an outcome, whose reports stand in front of `reports`.
 fn put_outcome(out: &mut [u8], outcome: Outcome, reports: &[u8]) -> usize
-    requires { ⌜ Ends (textOf outcome (now reports)) 0 ⌝ }
     ensures { λ r. ⌜ Puts (textOf outcome (now (reports .entry))) 0 (now (out .entry)) r (now (out .exit)) ⌝ }
 {
     match outcome {
@@ -161,9 +107,9 @@ fn put_outcome(out: &mut [u8], outcome: Outcome, reports: &[u8]) -> usize
 
 // The listing of a schedule, where there is room for it; else `out` stays, and the answer says how much is wanted.
 pub fn listing(bytes: &[u8], out: &mut [u8]) -> Listed
-    ensures { λ r. ⌜ Lists (now (bytes .entry)) (now (out .entry)) r (now (out .exit)) ⌝ }
+    ensures { λ r. ⌜ Lists (listingOf (now (bytes .entry))) (now (out .entry)) r (now (out .exit)) ⌝ }
 {
-    let mut reports = [0u8; 65536];
+    let mut reports = [0u8; outcome::MAX_BYTES];
     let outcome = schedule::run(bytes, &mut reports);
     let mut scrap = [0u8; 1];
     let wanted = put_outcome(&mut scrap, outcome, &reports);

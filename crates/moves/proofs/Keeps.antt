@@ -1,7 +1,7 @@
 -- A board's steps keep its shape and its soundness. In order: entering, passing and dealing keep the arrays' lengths; a cell's place
 -- among the toggles; the three steps keep a sound board sound; so do the calls, refused or not. Assumes nothing.
 use mathlib.Core.Path.{_≡_, refl}
-use mathlib.Core.Bool.{Bool, true, false, not, cond}
+use mathlib.Core.Bool.{Bool, true, false, not}
 use Prim.Native.Nat.{ℕ, _+_, _*_, _/_, _<_, _≤_}
 use native.Mathlib.Nat.{mul-le-mul-right, add-mul, one-mul}
 use native.Mathlib.Omega.{arith}
@@ -15,7 +15,7 @@ use Rattle.moves.specs.declared.Moved.{Moved}
 use Rattle.board.specs.Board.{freePlace, placeAt, countAt, cellAt, downAt}
 use Rattle.board.specs.Sound.{placeOk, placesOk, countsBeyond, togglesBeyond, itself, dealtSum, insideOne, insideSum, soundBoard}
 use Rattle.moves.specs.Enter.{at, enterNo, entering, enterWith}
-use Rattle.moves.specs.Turn.{turnNo, passing, dealing, turnWith}
+use Rattle.moves.specs.Turn.{turnNo, outletOf, passing, dealing, turnWith}
 use Rattle.board.proofs.Lists.{cond-case, all-set, sum-set}
 use Rattle.board.proofs.Sound.{Shaped, parts, whole, inside-at}
 use Rattle.moves.proofs.Refusals.{CanEnter, can-enter, CanTurn, can-turn}
@@ -53,9 +53,9 @@ pub cell-below : (w d L c : ℕ) → L < d → c < w / 2 → cellAt w L c < d * 
 cell-below w d L c l h =
     omega (arith, mul-le-mul-right {m = L + 1} {n = d} (w / 2) (omega arith), add-mul L 1 (w / 2), one-mul (w / 2))
 
-bit-le : (b : Bool) → cond b 1 0 ≤ 1
-bit-le true = lit≤ tt
-bit-le false = lit≤ tt
+outlet-le : (b : Bool) → outletOf b ≤ 1
+outlet-le true = lit≤ tt
+outlet-le false = lit≤ tt
 
 -- ---- a sound board stays sound
 pub entering-sound : (good : Bool) (w d : ℕ) (x : Board) (t v : ℕ) → Shaped x → CanEnter good w x t v → soundBoard w d x ≡ true → soundBoard w d (entering x t v) ≡ true
@@ -81,10 +81,10 @@ passing-sound good w d x t feeds s can even below l h =
     let L = getD (x .places) t freePlace .level in
     let c = feeds / 2 in
     let down = getD (x .toggles) (cellAt w L c) false in
-    let v = 2 * c + cond down 1 0 in
+    let v = 2 * c + outletOf down in
     let sums = sum-set freePlace insideOne (x .places) t (at (L + 1) v) (omega (arith, s .places, can .token)) in
     let was : insideOne (getD (x .places) t freePlace) ≡ 1 = rw (can .inside) in
-    let out : v < w = omega (arith, bit-le down) in
+    let out : v < w = omega (arith, outlet-le down) in
     whole w d (passing w x t feeds .board)
     (record {
       few = p .few;

@@ -70,7 +70,12 @@ module _ (w : ℕ) (x : Board) (t v n : ℕ) where
   unfolding enterWith
   enters-not e z = rw (← e, ne-eqb n 0 z)
 
--- the same number by the token's place
+-- the same numbers by the token's place
+pub enterNo-at : (w : ℕ) (x : Board) (t v : ℕ) (p : Place) → p ≡ placeAt x t
+    → enterNo true w x t v ≡ firstOf ((ltb 255 t ⟶ 4) ∷ (leb w v ⟶ 5) ∷ (p .inside ⟶ 6) ∷ (eqb (x .entered) 1000000 ⟶ 7) ∷ [])
+unfolding enterNo firstOf
+enterNo-at w x t v p e = rw e
+
 pub turnNo-at : (x : Board) (t : ℕ) (p : Place) → p ≡ placeAt x t → turnNo true x t ≡ firstOf ((ltb 255 t ⟶ 4) ∷ (not (p .inside) ⟶ 8) ∷ [])
 unfolding turnNo firstOf
 turnNo-at x t p e = rw e

@@ -1,7 +1,7 @@
 -- What is read off a board after a step: new here, same elsewhere. In order: entering, passing, dealing; what is not named after a
 -- step is as before. Cells of different layers, or different cells of one, stand apart. Assumes nothing.
 use mathlib.Core.Path.{_≡_, refl, ap}
-use mathlib.Core.Bool.{false, not, cond}
+use mathlib.Core.Bool.{false, not}
 use mathlib.Core.Logic.{_≢_}
 use Prim.Native.Nat.{ℕ, suc, _+_, _*_, _/_, _<_}
 use native.Mathlib.Nat.{mul-le-mul-right}
@@ -11,7 +11,7 @@ use lib.Seq.{getD-set-same, getD-set-other}
 use Rattle.board.specs.declared.Board.{Board}
 use Rattle.board.specs.Board.{freePlace, placeAt, countAt, cellAt, downAt}
 use Rattle.moves.specs.Enter.{at, entering}
-use Rattle.moves.specs.Turn.{passing, dealing}
+use Rattle.moves.specs.Turn.{outletOf, passing, dealing}
 use Rattle.board.proofs.Sound.{Shaped}
 
 -- cells of a network of width w that share a toggle's place are one cell
@@ -55,7 +55,7 @@ module _ (w : ℕ) (x : Board) (t feeds : ℕ) where
   abbrev c : ℕ
   c = feeds / 2
 
-  pub place-passing : Shaped x → t < 256 → placeAt after t ≡ at (L + 1) (2 * c + cond (downAt w x L c) 1 0)
+  pub place-passing : Shaped x → t < 256 → placeAt after t ≡ at (L + 1) (2 * c + outletOf (downAt w x L c))
   unfolding placeAt passing
   place-passing s l = getD-set-same (x .places) t _ freePlace (omega (arith, s .places))
 

@@ -9,7 +9,7 @@ use Rattle.order.specs.Order.{_⟶_, firstOf}
 use Rattle.board.specs.declared.Place.{Place}
 use Rattle.board.specs.declared.Board.{Board}
 use Rattle.moves.specs.declared.Boarded.{Boarded}
-use Rattle.board.specs.Board.{placeAt}
+use Rattle.board.specs.Board.{maxEntered, placeAt}
 
 abbrev pub at : ℕ → ℕ → Place
 at L v = record { inside = true; level = L; wire = v }
@@ -17,7 +17,7 @@ at L v = record { inside = true; level = L; wire = v }
 -- 9 not sound; 4 token above 255; 5 wire not below w; 6 token already inside; 7 entered is 1,000,000
 unfoldable pub enterNo : Bool → ℕ → Board → ℕ → ℕ → ℕ
 enterNo good w x t v =
-    firstOf ((not good ⟶ 9) ∷ (ltb 255 t ⟶ 4) ∷ (leb w v ⟶ 5) ∷ (placeAt x t .inside ⟶ 6) ∷ (eqb (x .entered) 1000000 ⟶ 7) ∷ [])
+    firstOf ((not good ⟶ 9) ∷ (ltb 255 t ⟶ 4) ∷ (leb w v ⟶ 5) ∷ (placeAt x t .inside ⟶ 6) ∷ (eqb (x .entered) maxEntered ⟶ 7) ∷ [])
 
 -- token t on wire v of level 0
 unfoldable pub entering : Board → ℕ → ℕ → Board

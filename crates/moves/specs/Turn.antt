@@ -16,16 +16,21 @@ use Rattle.moves.specs.Enter.{at}
 unfoldable pub turnNo : Bool → Board → ℕ → ℕ
 turnNo good x t = firstOf ((not good ⟶ 9) ∷ (ltb 255 t ⟶ 4) ∷ (not (placeAt x t .inside) ⟶ 8) ∷ [])
 
--- The token passes the cell c that its wire feeds, by the place 2c + s, whichever inlet s it used: it leaves by the top outlet
--- where the toggle is up, by the bottom where it is down, and flips it.
+-- the outlet that a toggle shows: 0, the top, where it is up, and 1, the bottom, where it is down
+abbrev pub outletOf : Bool → ℕ
+outletOf down = cond down 1 0
+
+-- The token passes the cell c that its wire feeds, by the place 2c + s, whichever inlet s it used: it leaves by the outlet that
+-- the toggle shows, and flips it. The answer names the new level and wire, and layer, cell and outlet.
 unfoldable pub passing : ℕ → Board → ℕ → ℕ → Moved
 passing w x t feeds =
     let L = placeAt x t .level in
     let c = feeds / 2 in
     let down = downAt w x L c in
-    let v = 2 * c + cond down 1 0 in
+    let o = outletOf down in
+    let v = 2 * c + o in
     record {
-      answer = Passed (L + 1) v;
+      answer = Passed (L + 1) v L c o;
       board =
           record {
             entered = x .entered;

@@ -23,6 +23,12 @@ fed-below Block h v l = omega arith
 fed-below Beside h v l = ⊎-elim (λ a. rw (lt-ltb v h a) a) (λ a. rw (le-ltb v h a) (omega arith)) (lt-or-le v h)
 fed-below Merger h v l = ⊎-elim (λ a. rw (lt-ltb v h a) (omega arith)) (λ a. rw (le-ltb v h a) (omega arith)) (lt-or-le v h)
 
+-- and any number to one that is no larger
+pub fed-most : (s : Feed) (h v : ℕ) → fedOf s h v .wire ≤ v
+fed-most Block h v = omega arith
+fed-most Beside h v = ⊎-elim (λ a. rw (lt-ltb v h a) (omega arith)) (λ a. rw (le-ltb v h a) (omega arith)) (lt-or-le v h)
+fed-most Merger h v = ⊎-elim (λ a. rw (lt-ltb v h a) (omega arith)) (λ a. rw (le-ltb v h a) (omega arith)) (lt-or-le v h)
+
 -- a place that is fed by a row whose places lie below h
 through-below : (h x : ℕ) (t : Bool) → x < h → cond t (h + x) x < 2 * h
 through-below h x true l = omega arith
@@ -39,3 +45,6 @@ feed-same s h f g e v l = ap (λ (x : ℕ). cond (fedOf s h v .second) (h + x) x
 
 pub last-below : (h v : ℕ) → v < 2 * h → lastAt h v < 2 * h
 last-below h v l = ⊎-elim (λ a. rw (lt-ltb v h a) (omega arith)) (λ a. rw (le-ltb v h a) (omega arith)) (lt-or-le v h)
+
+pub last-most : (h v : ℕ) → lastAt h v ≤ 2 * v + 1
+last-most h v = ⊎-elim (λ a. rw (lt-ltb v h a) (omega arith)) (λ a. rw (le-ltb v h a) (omega arith)) (lt-or-le v h)

@@ -46,6 +46,7 @@ module _ (w c L : ℕ) (l : L < depthOf w c) where
         bottom-feeds = o .there (2 * cell + 1) (omega arith);
       }
 
+  -- the row of a layer and the place of one wire by itself agree
   pub rowArray-at : (v : ℕ) → v < w → getD (rowArray w c L) v 0 ≡ placeOf w c L v
   unfolding rowArray
   rowArray-at v m = rw (lt-ltb L (depthOf w c) l) (array-is (placeOf w c L) w .at v m)

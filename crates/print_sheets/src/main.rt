@@ -40,7 +40,7 @@ fn show(width: u16, construction: u16, room: usize) {
 // The sheets of one construction, each in three bytes more than it needs.
 fn show_all(construction: u16) {
     let mut width = 1u16;
-    while width <= 64 {
+    while width <= network::MAX_WIDTH {
         let depth = network::depth_of(width, construction) as usize;
         if depth <= 36 {
             show(width, construction, depth * (width as usize) + 3);
@@ -50,8 +50,8 @@ fn show_all(construction: u16) {
 }
 
 fn main() {
-    show_all(1);
-    show_all(2);
+    show_all(network::BITONIC);
+    show_all(network::PERIODIC);
     show(0, 1, 16);
     show(3, 1, 16);
     show(128, 1, 16);

@@ -16,10 +16,10 @@ use Rattle.rest.specs.Share.{share}
 use Rattle.rest.proofs.Sum.{only-same, only-other, sum-change, sum-zero}
 use Rattle.rest.proofs.Share.{share-zero, share-other, share-own, below-share, share-below}
 use Rattle.board.specs.Sound.{sumOf}
-use Rattle.promise.specs.History.{Deal, times, dealtTo, dealtAt}
+use Rattle.promise.specs.History.{Deal, enteredOn, times, dealtTo, dealtAt}
 use Rattle.promise.specs.Further.{undealt}
 
--- ---- lists of deals
+-- ---- lists of deals and of entries
 sumOf-append : {A : Type 0} (f : A → ℕ) (l m : List A) → sumOf f (l ++ m) ≡ sumOf f l + sumOf f m
 unfolding sumOf
 sumOf-append f [] m = sym (zero-add (sumOf f m))
@@ -48,6 +48,14 @@ dealtAt-append i l m = sumOf-append (λ e. only (e .exit) i 1) l m
 pub dealtAt-one : (i : ℕ) (e : Deal) → dealtAt i (e ∷ []) ≡ only (e .exit) i 1
 unfolding dealtAt sumOf
 dealtAt-one i e = omega arith
+
+pub enteredOn-append : (v : ℕ) (l m : List ℕ) → enteredOn v (l ++ m) ≡ enteredOn v l + enteredOn v m
+unfolding enteredOn
+enteredOn-append v l m = sumOf-append (λ u. only u v 1) l m
+
+pub enteredOn-one : (v u : ℕ) → enteredOn v (u ∷ []) ≡ only u v 1
+unfolding enteredOn sumOf
+enteredOn-one v u = omega arith
 
 -- ---- 1 where q is below c, else 0
 unfoldable pub below : ℕ → ℕ → ℕ

@@ -13,7 +13,7 @@ use Rattle.rest.specs.Flow.{csum, flow}
 use Rattle.rest.specs.Share.{share}
 use Rattle.rest.proofs.Sum.{only-same, only-other, sum-change, sum-zero}
 use Rattle.rest.proofs.Rest.{counts}
-use Rattle.promise.proofs.Record.{Fits}
+use Rattle.promise.proofs.Boards.{Layered}
 
 -- wire v of level L feeds this cell
 abbrev pub cellOf : ℕ → ℕ → ℕ → ℕ → ℕ
@@ -34,7 +34,7 @@ csum-straight w x i l =
     )
 
 module _ (w c : ℕ) (ok : openNo w c ≡ 0) where
-  pub builds-fit : Fits w (depthOf w c) (cellOf w c) straight
+  pub builds-fit : Layered w (depthOf w c) (placeOf w c) straight
   builds-fit =
       let wide = allowed w c ok .width in
       let most = width-small w wide in
@@ -42,7 +42,8 @@ module _ (w c : ℕ) (ok : openNo w c ≡ 0) where
         some = width-some w wide;
         most = most;
         room = mul-le-mul {n₁ = depthOf w c} {m₁ = w / 2} {n₂ = 36} {m₂ = 32} (depthOf-small w c) (omega arith);
-        cells = λ L v l m. omega (arith, placeOf-below w c L l v m, layered w c L l .even);
+        even = λ l. layered w c 0 l .even;
+        places = λ L v l m. placeOf-below w c L l v m;
         exits = λ v m. m;
       }
 

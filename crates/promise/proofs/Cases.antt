@@ -11,12 +11,12 @@ use Rattle.moves.specs.Answer.{valuesOf}
 use Rattle.moves.specs.Enter.{enterNo, entering, enterWith}
 use Rattle.moves.specs.Turn.{turnNo, passing, dealing, turnWith}
 use Rattle.run.specs.Run.{fresh, openOf, depthIn, sound, enterOf, feedsOf, turnOf}
-use Rattle.promise.specs.History.{enter, turn, callOf, callsOf, history}
+use Rattle.promise.specs.History.{enter, turn, callOf, callsOf, callsBy, history}
 
 listing : history 2 1 (enter 5 0 ∷ enter 9 1 ∷ turn 9 ∷ turn 5 ∷ turn 5 ∷ turn 9 ∷ []) .deals
     ≡ record { token = 5; exit = 1; number = 1 } ∷ record { token = 9; exit = 0; number = 0 } ∷ []
 unfolding
-    history callsOf callOf openOf fresh depthIn sound enterOf feedsOf turnOf enterNo entering enterWith turnNo passing dealing
+    history callsOf callsBy callOf openOf fresh depthIn sound enterOf feedsOf turnOf enterNo entering enterWith turnNo passing dealing
     turnWith valuesOf all sumOf fewEntered placesOk countsBeyond togglesBeyond dealtSum insideSum addsUp soundBoard freshBoard
     placeAt countAt downAt placeOf feedAt part bitonic place widthOk constructionOk openNo levels depthOf firstOf
 listing = refl

@@ -3,7 +3,7 @@
 -- w/2 and each exit below w. Assumes nothing.
 use Prim.Native.Nat.{ℕ, zero, suc, _+_, _*_, _/_, _%_, _≤_, _<_}
 use mathlib.Core.Path.{_≡_, refl, ap, sym, _∙_}
-use mathlib.Core.Bool.{Bool, true, false, not, cond}
+use mathlib.Core.Bool.{Bool, true, false, not}
 use mathlib.Core.Logic.{_≢_}
 use native.Mathlib.Nat.{add-zero, le-refl, le-trans}
 use native.Mathlib.Decide.{ℕ-discrete}
@@ -11,7 +11,8 @@ use native.Mathlib.Omega.{arith}
 use Rattle.rest.specs.Sum.{only, sum}
 use Rattle.rest.specs.Flow.{csum, layer, flow}
 use Rattle.rest.proofs.Sum.{only-same, only-other, only-mono, sum-ext, sum-mono, sum-change, sum-zero}
-use Rattle.rest.proofs.Flow.{csum-zero, csum-ext, csum-bump, outlet-bump, layer-zero, layer-mono}
+use Rattle.rest.proofs.Flow.{csum-zero, csum-ext, csum-bump, outlet-bump, layer-zero, layer-ext, layer-mono}
+use Rattle.moves.specs.Turn.{outletOf}
 
 -- toggles, exit counts, the tokens on each wire of each level, those inside, those that entered
 pub record Seen : Type 0 where
@@ -41,17 +42,14 @@ module _ (L v K u : ℕ) where
     | no m ↦ only-other L K (only v u 1) m
   ]
 
-one-same : (L v u : ℕ) → one L v L u ≡ only v u 1
+pub one-same : (L v u : ℕ) → one L v L u ≡ only v u 1
 unfolding one
 one-same L v u = only-same L L (only v u 1) refl
 
--- where a toggle sends the next token: up to the top, 0, and down to the bottom, 1
-abbrev pub side : Bool → ℕ
-side b = cond b 1 0
-
-side-not : (b : Bool) (n : ℕ) → side b ≡ n % 2 → side (not b) ≡ (n + 1) % 2
-side-not false n h = omega arith
-side-not true n h = omega arith
+-- a flipped toggle shows the other outlet
+outlet-not : (b : Bool) (n : ℕ) → outletOf b ≡ n % 2 → outletOf (not b) ≡ (n + 1) % 2
+outlet-not false n h = omega arith
+outlet-not true n h = omega arith
 
 -- P L v tokens have left wire v of level L: one more from wire v of level L
 abbrev pub left : ℕ → ℕ → (ℕ → ℕ → ℕ) → ℕ → ℕ → ℕ
@@ -87,7 +85,7 @@ module _ (w d : ℕ) (cell : ℕ → ℕ → ℕ) (exit : ℕ → ℕ) where
     pub flips : b .down L (cell L v) ≡ not (a .down L (cell L v))
     pub downs : (K c : ℕ) → K < d → c < w / 2 → ¬ ((K ≡ L) × (c ≡ cell L v)) → b .down K c ≡ a .down K c
     pub counts : (i : ℕ) → i < w → b .count i ≡ a .count i
-    pub moves : (K u : ℕ) → b .tokens K u + one L v K u ≡ a .tokens K u + one (suc L) (2 * cell L v + side (a .down L (cell L v))) K u
+    pub moves : (K u : ℕ) → b .tokens K u + one L v K u ≡ a .tokens K u + one (suc L) (2 * cell L v + outletOf (a .down L (cell L v))) K u
     pub insides : b .inside ≡ a .inside
     pub entries : b .entered ≡ a .entered
 
@@ -105,7 +103,7 @@ module _ (w d : ℕ) (cell : ℕ → ℕ → ℕ) (exit : ℕ → ℕ) where
   pub record Balanced (o : Seen) (x : ℕ → ℕ) (P : ℕ → ℕ → ℕ) : Type 0 where
     pub wires : (L v : ℕ) → L ≤ d → v < w → arrived w cell x P L v ≡ P L v + o .tokens L v
     pub exits : (i : ℕ) → i < w → csum w exit (P d) i ≡ o .count i
-    pub toggles : (L c : ℕ) → L < d → c < w / 2 → side (o .down L c) ≡ csum w (cell L) (P L) c % 2
+    pub toggles : (L c : ℕ) → L < d → c < w / 2 → outletOf (o .down L c) ≡ csum w (cell L) (P L) c % 2
     pub entries : sum w x ≡ o .entered
     pub total : sum w (o .count) + o .inside ≡ o .entered
 
@@ -139,7 +137,7 @@ module _ (w d : ℕ) (cell : ℕ → ℕ → ℕ) (exit : ℕ → ℕ) where
       record {
         wires = enters-wires a b v x P s i;
         exits = λ j l. i .exits j l ∙ sym (s .counts j l);
-        toggles = λ L c l m. ap side (s .downs L c l m) ∙ i .toggles L c l m;
+        toggles = λ L c l m. ap outletOf (s .downs L c l m) ∙ i .toggles L c l m;
         entries = omega (arith, more, one-here 0 v 0 v refl refl, s .entries, i .entries);
         total = omega (arith, s .insides, sum-ext w (b .count) (a .count) (s .counts), s .entries, i .total);
       }
@@ -170,11 +168,11 @@ module _ (w d : ℕ) (cell : ℕ → ℕ → ℕ) (exit : ℕ → ℕ) where
   ]
 
   passes-toggles : (a b : Seen) (L v : ℕ) (x : ℕ → ℕ) (P : ℕ → ℕ → ℕ) → Passes a b L v → Balanced a x P → cell L v < w / 2
-      → (K c : ℕ) → K < d → c < w / 2 → side (b .down K c) ≡ csum w (cell K) (left L v P K) c % 2
+      → (K c : ℕ) → K < d → c < w / 2 → outletOf (b .down K c) ≡ csum w (cell K) (left L v P K) c % 2
   passes-toggles a b L v x P s i f K c l k = elim (ℕ-discrete K L) [
     | yes e ↦ elim (ℕ-discrete c (cell L v)) [
       | yes g ↦ rw (e, g, left-csum L v (cell L v) (cell L) P (s .wire), only-same (cell L v) (cell L v) 1 refl, s .flips)
-          (side-not (a .down L (cell L v)) (csum w (cell L) (P L) (cell L v)) (i .toggles L (cell L v) (s .level) f))
+          (outlet-not (a .down L (cell L v)) (csum w (cell L) (P L) (cell L v)) (i .toggles L (cell L v) (s .level) f))
       | no g ↦ rw (s .downs K c l k (λ z. g (z .1)), e, left-csum L v c (cell L) P (s .wire), only-other (cell L v) c 1 (λ z. g (sym z)), add-zero)
           (i .toggles L c (s .level) k)
     ]
@@ -185,7 +183,7 @@ module _ (w d : ℕ) (cell : ℕ → ℕ → ℕ) (exit : ℕ → ℕ) where
       → (a b : Seen) (L v : ℕ) (x : ℕ → ℕ) (P : ℕ → ℕ → ℕ) → Passes a b L v → Balanced a x P → Balanced b x (left L v P)
   passes-balanced fits a b L v x P s i =
       let f : cell L v < w / 2 = fits L v (s .level) (s .wire) in
-      let p : ℕ = 2 * cell L v + side (a .down L (cell L v)) in
+      let p : ℕ = 2 * cell L v + outletOf (a .down L (cell L v)) in
       let e : p ≡ 2 * cell L v + csum w (cell L) (P L) (cell L v) % 2 = omega (arith, i .toggles L (cell L v) (s .level) f) in
       record {
         wires = λ K u l k. omega (arith, passes-arrived L v p x P (s .wire) e K u, s .moves K u, i .wires K u l k);
@@ -237,3 +235,22 @@ module _ (w d : ℕ) (cell : ℕ → ℕ → ℕ) (exit : ℕ → ℕ) where
     where
       stays : (L v : ℕ) → L ≤ d → v < w → P L v ≤ arrived w cell x P L v
       stays L v p q = omega (arith, k .wires L v p q)
+
+  -- ---- at rest, with no token on any wire, what has come to each wire is what flows to it
+  arrived-rest : (o : Seen) (x : ℕ → ℕ) (P : ℕ → ℕ → ℕ) → Balanced o x P → ((L v : ℕ) → L ≤ d → v < w → o .tokens L v ≡ 0)
+      → (L v : ℕ) → L ≤ d → v < w → arrived w cell x P L v ≡ flow w cell x L v
+  unfolding arrived flow
+  arrived-rest o x P k none zero v l m = refl
+  arrived-rest o x P k none (suc L) v l m =
+      layer-ext w (cell L) (P L) (flow w cell x L) v
+      (λ u n.
+      let before : L ≤ d = omega arith in
+      omega (arith, k .wires L u before n, none L u before n, arrived-rest o x P k none L u before n))
+
+  -- so each exit has dealt what flows to it
+  pub count-rest : (o : Seen) (x : ℕ → ℕ) (P : ℕ → ℕ → ℕ) → Balanced o x P → ((L v : ℕ) → L ≤ d → v < w → o .tokens L v ≡ 0)
+      → (i : ℕ) → i < w → o .count i ≡ csum w exit (flow w cell x d) i
+  count-rest o x P k none i l =
+      sym (k .exits i l)
+      ∙ csum-ext w exit (P d) (flow w cell x d) i
+      (λ v m. omega (arith, k .wires d v (le-refl d) m, none d v (le-refl d) m, arrived-rest o x P k none d v (le-refl d) m))

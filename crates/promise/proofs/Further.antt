@@ -17,7 +17,7 @@ use Rattle.board.specs.Sound.{insideSum}
 use Rattle.moves.specs.Enter.{at}
 use Rattle.run.specs.declared.Run.{Run}
 use Rattle.run.specs.Run.{enterOf}
-use Rattle.promise.specs.History.{Call, enter, Deal, After, callOf, callsOf, history, times, dealtTo, dealtAt}
+use Rattle.promise.specs.History.{Call, enter, Deal, After, callOf, callsOf, callsBy, history, times, dealtTo, dealtAt}
 use Rattle.promise.specs.Promise.{Promise}
 use Rattle.promise.specs.Further.{TrueCounts, NextNumber, OneByOne, undealt, Gaps, FewGaps, Nonblocking}
 use Rattle.promise.proofs.Book.{Book, below-yes, times-append, times-one, dealtTo-one, dealtAt-append, dealtAt-one, undealt-short}
@@ -25,7 +25,8 @@ use Rattle.promise.proofs.Record.{none-inside}
 use Rattle.promise.proofs.Builds.{builds-fit}
 use Rattle.promise.proofs.Reached.{Reached, reached-size, history-reached, reached-call, reached-calls, width-calls, history-width, history-depth}
 use Rattle.promise.proofs.Promise.{reached-promise}
-use Rattle.promise.proofs.Pace.{inside-token, paced-calls, paced-dealt, entered-stands}
+use Rattle.promise.proofs.Pace.{inside-token}
+use Rattle.promise.proofs.Own.{reached-stands, reached-paced, reached-dealt}
 
 -- ---- the record's counts
 pub true-counts : TrueCounts
@@ -63,27 +64,28 @@ module _ (x : Run) (dealt : List Deal) (r : Reached x dealt) (t v : ℕ) (calls 
   abbrev m : ℕ
   m = x .board .entered
 
-  abbrev y : After
+  abbrev y : After Run
   y = callsOf x (enter t v ∷ calls)
 
   rests : Reached (y .run) (dealt ++ y .deals)
-  rests = reached-calls (enter t v ∷ calls) r
+  rests = reached-calls r (enter t v ∷ calls)
 
   promised : Promise w (y .run .board) (dealt ++ y .deals)
   promised = rw (width-calls (enter t v ∷ calls) x) at (reached-promise rests)
 
   -- the request is done, and was not before its number was dealt
   dealt-own : enterOf x t v .refusal ≡ 0 → insideSum (y .run .board) ≡ 0 → 0 < dealtTo t (y .deals)
-  unfolding callsOf callOf
+  unfolding callsOf callsBy callOf
   dealt-own taken z =
       let first = callOf x (enter t v) .run in
-      let s : Reached first (dealt ++ []) = reached-call x dealt r (enter t v) in
-      let inside : placeAt (first .board) t .inside ≡ true = rw (entered-stands x dealt r t v taken) in
+      let s : Reached first (dealt ++ []) = reached-call r (enter t v) in
+      let inside : placeAt (first .board) t .inside ≡ true = rw (reached-stands r t v taken) in
       elim (decLt 0 (dealtTo t (callsOf first calls .deals))) [
         | yes some ↦ some
         | no none ↦
-            let still = paced-calls calls s t .least inside (omega arith) .0 in
-            absurd (omega (arith, rw still at (none-inside (y .run .board) t (rests .shaped) (inside-token first t (s .shaped) inside) z)))
+            let still = reached-paced s calls t .least inside (omega arith) .0 in
+            let token = inside-token (first .board) t (s .keeping .shaped) inside in
+            absurd (omega (arith, rw still at (none-inside (y .run .board) t (rests .keeping .shaped) token z)))
       ]
 
   numbers : insideSum (x .board) ≡ 0 → y .run .board .entered ≡ m + 1 → (u : ℕ) → 0 < times u (y .deals) → u ≡ m
@@ -181,5 +183,5 @@ few-gaps = record {
 pub nonblocking : Nonblocking
 nonblocking = record {
   holds = λ w c before t calls ok i l.
-      paced-dealt calls (history-reached w c ok before) t i (rw (history-depth w c ok before, i) l);
+      reached-dealt (history-reached w c ok before) calls t i (rw (history-depth w c ok before, i) l);
 }

@@ -2,11 +2,12 @@ pub mod Core
 pub mod Book
 pub mod Kept
 pub mod Record
+pub mod Boards
+pub mod Pace
 pub mod Builds
-pub mod Calls
 pub mod Reached
 pub mod Promise
-pub mod Pace
 pub mod Own
+pub mod Trace
 pub mod Further
 mod Cases

@@ -17,7 +17,7 @@ use Rattle.board.specs.Board.{countAt}
 use Rattle.board.specs.Sound.{insideSum}
 use Rattle.run.specs.declared.Run.{Run}
 use Rattle.run.specs.Run.{depthIn}
-use Rattle.promise.specs.History.{Deal}
+use Rattle.promise.specs.History.{Deal, enteredOn}
 use Rattle.promise.specs.Promise.{Promise, Demand3}
 use Rattle.promise.proofs.Core.{count-le-flow}
 use Rattle.promise.proofs.Book.{below-yes, below-no}
@@ -66,7 +66,7 @@ reached-promise {x} {dealt} r =
     let w = x .width in
     let c = x .construction in
     kept-promise w (depthOf w c) (cellOf w c) straight (builds-fit w c (r .allowed) .some) (rest-exits w c (r .allowed))
-    (x .board) (r .keeping .entries) dealt (r .keeping .kept)
+    (x .board) (λ v. enteredOn v (r .entries)) dealt (r .keeping .kept)
 
 pub demand-3 : Demand3
 demand-3 = record {

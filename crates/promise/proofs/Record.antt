@@ -2,9 +2,11 @@
 -- record. So each step of the board keeps what is kept. Assumes nothing.
 use Prim.Native.Nat.{ℕ, _+_, _*_, _/_, _≤_, _<_}
 use mathlib.Core.Path.{_≡_, refl}
-use mathlib.Core.Bool.{true, false, cond}
+use mathlib.Core.Bool.{Bool, true, false, cond}
 use mathlib.Core.List.{List, [], _∷_, _++_}
+use native.Mathlib.Nat.{le-refl}
 use native.Mathlib.Numerals.{add-one}
+use native.Mathlib.Decide.{ℕ-discrete}
 use native.Mathlib.Omega.{arith}
 use lib.ListN.{set, getD-replicate}
 use Rattle.board.specs.declared.Place.{Place}
@@ -12,13 +14,13 @@ use Rattle.board.specs.declared.Board.{Board}
 use Rattle.board.specs.Board.{freePlace, freshBoard, placeAt, countAt, cellAt, downAt}
 use Rattle.board.specs.Sound.{sumOf, insideOne, insideSum}
 use Rattle.moves.specs.Enter.{at, entering}
-use Rattle.moves.specs.Turn.{passing, numberAt, dealing}
+use Rattle.moves.specs.Turn.{outletOf, passing, numberAt, dealing}
 use Rattle.board.proofs.Lists.{sum-set, sum-replicate}
 use Rattle.board.proofs.Sound.{Shaped}
 use Rattle.moves.proofs.Keeps.{cell-below}
 use Rattle.moves.proofs.Seen.{cell-apart, down-entering, count-entering, down-passing, down-passing-other, count-passing, down-dealing, count-dealing, count-dealing-other}
 use Rattle.promise.specs.History.{Deal}
-use Rattle.promise.proofs.Core.{Seen, one, side, Opens, Enters, Passes, Deals}
+use Rattle.promise.proofs.Core.{Seen, one, one-here, one-level, one-wire, Opens, Enters, Passes, Deals}
 use Rattle.promise.proofs.Kept.{Kept, kept-open, kept-enter, kept-pass, kept-deal}
 
 -- 1 where a token's place is wire v of level L
@@ -48,6 +50,26 @@ placed f x t p s l = sum-set freePlace f (x .places) t p (omega (arith, s .place
 pub none-inside : (x : Board) (t : ℕ) → Shaped x → t < 256 → insideSum x ≡ 0 → insideOne (placeAt x t) ≡ 0
 unfolding insideSum
 none-inside x t s l z = omega (arith, placed insideOne x t freePlace s l)
+
+-- and none is on any wire
+one-le : (L v K u : ℕ) → one L v K u ≤ 1
+one-le L v K u = elim (ℕ-discrete K L) [
+  | yes e ↦ elim (ℕ-discrete u v) [ yes f ↦ omega (arith, one-here L v K u e f) | no n ↦ omega (arith, one-wire L v K u n) ]
+  | no n ↦ omega (arith, one-level L v K u n)
+]
+
+on-le : (L v : ℕ) (p : Place) (b : Bool) → cond b (one (p .level) (p .wire) L v) 0 ≤ cond b 1 0
+on-le L v p true = one-le (p .level) (p .wire) L v
+on-le L v p false = le-refl 0
+
+sumOf-mono : {A : Type 0} (f g : A → ℕ) → ((a : A) → f a ≤ g a) → (l : List A) → sumOf f l ≤ sumOf g l
+unfolding sumOf
+sumOf-mono f g h [] = le-refl 0
+sumOf-mono f g h (a ∷ l) = omega (arith, h a, sumOf-mono f g h l)
+
+pub none-on : (x : Board) (L v : ℕ) → insideSum x ≡ 0 → seenOf 0 x .tokens L v ≡ 0
+unfolding insideSum
+none-on x L v z = omega (arith, sumOf-mono (on L v) insideOne (λ p. on-le L v p (p .inside)) (x .places))
 
 -- what is asked of a network that runs on a board
 pub record Fits (w d : ℕ) (cell : ℕ → ℕ → ℕ) (exit : ℕ → ℕ) : Type 0 where
@@ -97,7 +119,7 @@ module _ {w d : ℕ} {cell : ℕ → ℕ → ℕ} {exit : ℕ → ℕ} (f : Fits
           let L = placeAt x t .level in
           let c = feeds / 2 in
           let fits : c < w / 2 = rw (← row) (f .cells L (placeAt x t .wire) l wire) in
-          let new : Place = at (L + 1) (2 * c + side (downAt w x L c)) in
+          let new : Place = at (L + 1) (2 * c + outletOf (downAt w x L c)) in
           record {
             level = l;
             wire = wire;

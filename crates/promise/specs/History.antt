@@ -3,6 +3,7 @@
 use Prim.Native.Nat.{ℕ, _+_}
 use mathlib.Core.Bool.{cond}
 use mathlib.Core.List.{List, [], _∷_, _++_}
+use lib.Dec.{eqb}
 use Rattle.rest.specs.Sum.{only}
 use Rattle.board.specs.Sound.{sumOf}
 use Rattle.moves.specs.Answer.{Values, valuesOf}
@@ -20,31 +21,43 @@ pub record Deal : Type 0 where
   pub exit : ℕ
   pub number : ℕ
 
--- what comes of calls: the run after them, and the numbers dealt, in the order of dealing
-pub record After : Type 0 where
-  pub run : Run
+-- what comes of calls on a record: the record after them, the wires on which tokens entered and the numbers dealt, each in order
+pub record After (R : Type 0) : Type 0 where
+  pub run : R
+  pub entries : List ℕ
   pub deals : List Deal
+
+-- the wire of an enter that was not refused
+abbrev pub entryOf : ℕ → ℕ → List ℕ
+entryOf number v = cond (eqb number 0) (v ∷ []) []
 
 -- the number that a turn of token t dealt, if it dealt one, as the values of its answer say
 abbrev pub dealOf : ℕ → Values → List Deal
 dealOf t a = cond (a .dealt) (record { token = t; exit = a .exit; number = a .number } ∷ []) []
 
 -- one call. That a refused call changes nothing is part of `enterOf` and `turnOf`.
-unfoldable pub callOf : Run → Call → After
-callOf x (enter t v) = record { run = enterOf x t v .run; deals = [] }
-callOf x (turn t) = record { run = turnOf x t .run; deals = dealOf t (valuesOf (turnOf x t .answer)) }
+unfoldable pub callOf : Run → Call → After Run
+callOf x (enter t v) = record { run = enterOf x t v .run; entries = entryOf (enterOf x t v .refusal) v; deals = [] }
+callOf x (turn t) = record { run = turnOf x t .run; entries = []; deals = dealOf t (valuesOf (turnOf x t .answer)) }
 
--- calls one after another
-unfoldable pub callsOf : Run → List Call → After
-callsOf x [] = record { run = x; deals = [] }
-callsOf x (call ∷ rest) =
-    let first = callOf x call in
-    let then = callsOf (first .run) rest in
-    record { run = then .run; deals = first .deals ++ then .deals }
+-- calls one after another, each made by `step`
+unfoldable pub callsBy : {R : Type 0} → (R → Call → After R) → R → List Call → After R
+callsBy step x [] = record { run = x; entries = []; deals = [] }
+callsBy step x (call ∷ rest) =
+    let first = step x call in
+    let then = callsBy step (first .run) rest in
+    record { run = then .run; entries = first .entries ++ then .entries; deals = first .deals ++ then .deals }
+
+unfoldable pub callsOf : Run → List Call → After Run
+callsOf x calls = callsBy callOf x calls
 
 -- calls from the opening of width w and construction c
-unfoldable pub history : ℕ → ℕ → List Call → After
+unfoldable pub history : ℕ → ℕ → List Call → After Run
 history w c calls = callsOf (openOf w c .run) calls
+
+-- how many of the entries were on wire v
+unfoldable pub enteredOn : ℕ → List ℕ → ℕ
+enteredOn v entries = sumOf (λ u. only u v 1) entries
 
 -- how often the number v was dealt
 unfoldable pub times : ℕ → List Deal → ℕ

@@ -1,4 +1,5 @@
 pub mod History
 pub mod Promise
 pub mod Own
+pub mod Trace
 pub mod Further

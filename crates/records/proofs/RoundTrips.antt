@@ -37,7 +37,7 @@ kind-bytesOf (Turn t) rest = refl
 kind-bytesOf (Close e) rest = refl
 kind-bytesOf (Number t v n) rest = refl
 
-both : (a b : Bool) → a && b ≡ true → (a ≡ true) × (b ≡ true)
+pub both : (a b : Bool) → a && b ≡ true → (a ≡ true) × (b ≡ true)
 both true b h = (refl, h)
 both false b h = let no : _≡_ {A = ℕ} 0 1 = cc in absurd (omega arith)
 

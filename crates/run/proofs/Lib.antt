@@ -1,2 +1,2 @@
 pub mod Keeps
-mod Calls
+pub mod Calls

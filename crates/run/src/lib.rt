@@ -9,6 +9,7 @@ ghost use mathlib.Core.Bool.{true};
 ghost use Prim.Native.Nat.{_<_};
 ghost use Rattle.network.specs.Widths.{depthOf};
 ghost use Rattle.network.specs.Rows.{placeOf};
+ghost use Rattle.run.specs.Limits.{LimitsAre};
 ghost use Rattle.run.specs.Run.{fresh, openOf, sound, withBoard, enterOf, turnOf};
 
 pub struct Run {
@@ -32,6 +33,26 @@ pub struct Turned {
     pub run: Run,
 }
 
+// The constants of a run, as a value that a contract can speak of.
+struct Limits {
+    width: u16,
+    entered: u32,
+    bitonic: u16,
+    periodic: u16,
+}
+
+// Nothing calls it: its contract holds the constants to the definitions.
+fn constants() -> Limits
+    ensures { λ r. ⌜ LimitsAre r ⌝ }
+{
+    Limits {
+        width: Run::MAX_WIDTH,
+        entered: Run::MAX_ENTERED,
+        bitonic: Run::BITONIC,
+        periodic: Run::PERIODIC,
+    }
+}
+
 fn made(width: u16, construction: u16) -> Run
     ensures { λ r. ⌜ r ≡ fresh width construction ⌝ }
 {
@@ -43,14 +64,12 @@ fn made(width: u16, construction: u16) -> Run
     }
 }
 
-// The place that a token's wire feeds: the wire's byte in the row of the token's layer.
+// The place that a token's wire feeds, below the width.
 fn feeds_at(width: u16, construction: u16, place: Place) -> u8
     requires { ⌜ (place .level < depthOf width construction) × (place .wire < width) ⌝ }
     ensures { λ r. ⌜ r ≡ placeOf width construction (place .level) (place .wire) ⌝ }
 {
-    let row = network::row(width, construction, place.level);
-    let at = place.wire as usize;
-    row[at]
+    network::place_of(width, construction, place.level, place.wire) as u8
 }
 
 fn moved_on(run: Run, moved: Moved) -> Turned
@@ -69,13 +88,13 @@ fn moved_on(run: Run, moved: Moved) -> Turned
 }
 
 impl Run {
-    pub const MAX_WIDTH: u16 = 64;
+    pub const MAX_WIDTH: u16 = network::MAX_WIDTH;
 
-    pub const MAX_ENTERED: u32 = 1_000_000;
+    pub const MAX_ENTERED: u32 = board::MAX_ENTERED;
 
-    pub const BITONIC: u16 = 1;
+    pub const BITONIC: u16 = network::BITONIC;
 
-    pub const PERIODIC: u16 = 2;
+    pub const PERIODIC: u16 = network::PERIODIC;
 
     // A run with nothing entered; refused by 1 and 2, with a record of width 0 and construction 0, which is not sound.
     pub fn open(width: u16, construction: u16) -> Opened

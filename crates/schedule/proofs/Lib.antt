@@ -1,9 +1,4 @@
-mod Ready
 mod Reports
-mod Faults
-pub mod Told
+mod Serving
 mod Loop
-mod Spot
 mod Whole
-pub mod Room
-pub mod Cases

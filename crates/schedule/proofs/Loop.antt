@@ -1,171 +1,215 @@
--- One pass over a schedule's bytes. In order: what holds at the loop's head; what the pass leaves at each way out; a record out of its place;
--- that the head is reached again. Assumes nothing.
+-- One pass over a schedule's bytes. In order: what holds at the loop's head; what the pass leaves at each way out; a record read there:
+-- what it asks, and that the head is reached again. Assumes nothing.
 use mathlib.Core.Path.{_≡_, refl, sym, _∙_, ap}
-use mathlib.Core.Bool.{Bool, true, false, cond}
+use mathlib.Core.Bool.{false}
 use mathlib.Core.List.{List, [], _++_}
 use Prim.Native.Nat.{ℕ, suc, _+_, _-_, _*_, _<_, _≤_}
 use native.Mathlib.Nat.{sub-zero}
 use native.Mathlib.Omega.{arith}
-use lib.ListN.{length, length-append}
-use borrow.Author.Tests.{ne-eqb}
+use lib.ListN.{length, replicate, length-append}
+use Rattle.order.specs.Order.{over}
+use Rattle.board.specs.declared.Board.{Board}
+use Rattle.board.specs.Board.{freshBoard}
+use Rattle.board.specs.Sound.{insideSum}
+use Rattle.run.specs.Run.{fresh}
+use Rattle.in_place.specs.declared.Frame.{Frame}
+use Rattle.in_place.specs.Held.{Lent, lent, boardIn, runIn, blank, Held}
+use Rattle.in_place.proofs.Seats.{noSeats}
+use Rattle.in_place.proofs.Steps.{unmoved, held-blank}
 use Rattle.records.specs.declared.Record.{Record}
 use Rattle.records.specs.declared.Read.{Read}
 use Rattle.records.specs.declared.Read.the-variants.{Got, Refused as Unread}
-use Rattle.order.specs.Order.{over}
-use Rattle.schedule.specs.declared.Outcome.{Outcome}
-use Rattle.schedule.specs.declared.Outcome.the-variants.{Accepted, Refused}
-use Rattle.schedule.specs.Course.{Course, atStart, step}
-use Rattle.schedule.specs.Step.{placeNo, stepOf}
-use Rattle.schedule.specs.Schedule.{Told, stopped, accepted, recordAt, tellFrom, tell}
-use Rattle.schedule.specs.Pass.{numberOf, RoomFor, Noted, Fits, Passable, PassIs}
-use Rattle.schedule.proofs.Ready.{Ready, ready-start, ready-step}
-use Rattle.schedule.proofs.Reports.{over-none, over-next, length-over}
-use Rattle.schedule.proofs.Told.{Stepped, place, Rest, rest-late, rest-whole, rest-unread, rest-refused, rest-passed, done-fits}
+use Rattle.outcome.specs.declared.Outcome.{Outcome}
+use Rattle.outcome.specs.declared.Outcome.the-variants.{Accepted, Refused}
+use Rattle.outcome.specs.Course.{Course, course, atStart, Step}
+use Rattle.outcome.specs.Step.{stepOf}
+use Rattle.outcome.specs.Schedule.{Told, stopped, accepted, recordAt, tellFrom, tell}
+use Rattle.outcome.proofs.Ready.{Ready, ready-start, ready-step}
+use Rattle.outcome.proofs.Told.{At, Stepped, place, Rest, rest-late, rest-whole, rest-unread, rest-refused, rest-passed}
+use Rattle.outcome.proofs.Room.{inside-fresh, paid-step}
+use Rattle.schedule.specs.declared.Stage.{Stage}
+use Rattle.schedule.specs.declared.Served.{Served}
+use Rattle.schedule.specs.Serving.{courseIn, RoomFor, Serves, Servable}
+use Rattle.schedule.specs.Pass.{numberOf, Passable, PassIs}
+use Rattle.schedule.proofs.Reports.{over-next, length-over}
 
--- ---- what holds at the loop's head: record n at the offset `at`, the reports done fill `filled` bytes
-pub record Going (s out₀ : List ℕ) (w : Bool) (out : List ℕ) (x : Course) (at n filled : ℕ) : Type 0 where
-  pub passable : Passable s out₀ w
+-- ---- what holds at the loop's head: record n at the offset `at`, the schedule at g over the arrays a, and the bytes before the
+-- offset pay for the reports done
+pub record Going (s out₀ out : List ℕ) (g : Stage) (a : Lent) (at n : ℕ) : Type 0 where
+  pub passable : Passable s out₀
   pub within : at ≤ length s
   pub few : n ≤ at
-  pub ready : Ready x
+  pub ready : Ready (courseIn g a)
+  pub held : Held (g .frame) a
   pub done : List ℕ
-  pub long : length done ≡ filled
-  pub small : filled ≤ 12 * n
-  pub same : tellFrom (suc (length s) - n) s x at n done ≡ tell s
-  pub wrote : out ≡ cond w (over done out₀) out₀
+  pub long : length done ≡ g .filled
+  pub paid : length done + 6 * insideSum (courseIn g a .run .board) ≤ at
+  pub same : tellFrom (suc (length s) - n) s (courseIn g a) at n done ≡ tell s
+  pub wrote : out ≡ over done out₀
 
-pub begins : (s out : List ℕ) (w : Bool) (x : Course) → Passable s out w → x ≡ atStart → Going s out w out x 0 0 0
-unfolding tell
-begins s out w x p e =
-    record {
+abbrev start : Frame → Stage
+start f = record { phase = 0; frame = f; filled = 0 }
+
+abbrev blankLent : Lent
+blankLent = lent (replicate 2304 0) (replicate 1152 false) (replicate 64 0) noSeats
+
+run-blank : runIn blank blankLent ≡ fresh 0 0
+unfolding runIn fresh
+run-blank = rw unmoved
+
+none-inside : insideSum (fresh 0 0 .board) ≡ 0
+unfolding fresh
+none-inside = inside-fresh
+
+pub begins : {s out : List ℕ} {f : Frame} → Passable s out → f ≡ blank → Going s out out (start f) blankLent 0 0
+unfolding tell atStart
+begins p e =
+    rw e
+    (record {
       passable = p;
       within = omega arith;
       few = omega arith;
-      ready = rw e ready-start;
+      ready = rw run-blank ready-start;
+      held = held-blank;
       done = [];
       long = refl;
-      small = omega arith;
-      same = rw (e, sub-zero);
-      wrote = over-none w out;
-    }
+      paid = rw run-blank (omega (arith, none-inside));
+      same = rw (run-blank, sub-zero);
+      wrote = refl;
+    })
 
--- ---- a way out: what the pass leaves, and the length of the output
-pub record Ended (s out₀ : List ℕ) (w : Bool) (r : Outcome) (out : List ℕ) : Type 0 where
-  pub leaves : PassIs s out₀ w r out
+-- ---- a way out: what the pass leaves, and the length of the buffer
+pub record Ended (s out₀ : List ℕ) (r : Outcome) (out : List ℕ) : Type 0 where
+  pub leaves : PassIs s out₀ r out
   pub same-length : length out ≡ length out₀
 
--- nothing was written of a schedule that is refused
-unwritten : (w : Bool) (s out₀ out done : List ℕ) (k n at : ℕ) → (w ≡ true → Fits s (length out₀)) → stopped k n at ≡ tell s
-    → out ≡ cond w (over done out₀) out₀ → out ≡ out₀
-unwritten true s out₀ out done k n at fits told e =
-    let accepts = fits refl .accepts in
-    let never : _≡_ {A = ℕ} 0 1 = cc in
-    absurd (omega arith)
-unwritten false s out₀ out done k n at fits told e = e
-
-module _ {s out₀ : List ℕ} {w : Bool} {out : List ℕ} {x : Course} {at n filled : ℕ} (g : Going s out₀ w out x at n filled) where
+module _ {s out₀ out : List ℕ} {g : Stage} {a : Lent} {at n : ℕ} (h : Going s out₀ out g a at n) where
   few : n ≤ length s
-  few = omega (arith, g .few, g .within)
-
-  ends : {out′ : List ℕ} (done′ : List ℕ) → out′ ≡ cond w (over done′ out₀) out₀ → (k : ℕ) → Rest s x at n (g .done) few ≡ stopped k n at
-      → Ended s out₀ w (Refused k n at) out′
-  ends done′ wrote k h =
-      let told : stopped k n at ≡ tell s = sym h ∙ g .same in
-      let kept = unwritten w s out₀ _ done′ k n at (g .passable .fits) told wrote in
-      record {
-        leaves = record { outcome = ap (λ (t : Told). t .outcome) told; output = kept ∙ rw (← told) (over-none w out₀) };
-        same-length = ap length kept;
-      }
-
-  pub ends-late : x .phase ≡ 2 → at < length s → Ended s out₀ w (Refused 14 n at) out
-  ends-late closed h = ends (g .done) (g .wrote) 14 (rest-late s x at n (g .done) few closed h)
-
-  pub ends-unread : (x .phase ≡ 2 → ⊥) → {q : Read} {k number : ℕ} → q ≡ recordAt s at → q ≡ Unread k → number ≡ numberOf q
-      → Ended s out₀ w (Refused number n at) out
-  unfolding numberOf
-  ends-unread running {k = k} e f said =
-      rw (said ∙ ap numberOf f) (ends (g .done) (g .wrote) k (rest-unread s x at n (g .done) few running k (sym e ∙ f)))
-
-  fitting : (y : Course) (to m : ℕ) (done : List ℕ) → tellFrom (suc (length s) - m) s y to m done ≡ tell s → w ≡ true
-      → length done ≤ length out₀
-  fitting y to m done same t = done-fits _ s y to m done _ same (g .passable .fits t)
+  few = omega (arith, h .few, h .within)
 
   same-length : length out ≡ length out₀
-  same-length = ap length (g .wrote) ∙ length-over w (g .done) out₀ (fitting x at n (g .done) (g .same))
+  same-length = ap length (h .wrote) ∙ length-over (h .done) out₀ (omega (arith, h .paid, h .within, h .passable .room))
 
-  pub ends-whole : x .phase ≡ 2 → length s ≤ at
-      → Ended s out₀ w (Accepted (x .run .width) (x .run .construction) (x .run .board .entered) filled) out
-  ends-whole closed h =
-      let told : accepted x (g .done) ≡ tell s = sym (rest-whole s x at n (g .done) few closed h) ∙ g .same in
+  ends : {out′ : List ℕ} → length out′ ≡ length out₀ → (k : ℕ) → Rest s (courseIn g a) at n (h .done) few ≡ stopped k n at
+      → Ended s out₀ (Refused k n at) out′
+  ends l k e =
+      let told : stopped k n at ≡ tell s = sym e ∙ h .same in
       record {
-        leaves = record { outcome = rw (← told, g .long); output = rw (← told, g .wrote) };
+        leaves = record {
+          outcome = ap (λ (t : Told). t .outcome) told;
+          gathered = λ w c e b accepts. let never : _≡_ {A = ℕ} 0 1 = cc in absurd (omega arith);
+        };
+        same-length = l;
+      }
+
+  pub ends-late : g .phase ≡ 2 → at < length s → Ended s out₀ (Refused 14 n at) out
+  ends-late closed l = ends same-length 14 (rest-late s (courseIn g a) at n (h .done) few closed l)
+
+  pub ends-unread : (g .phase ≡ 2 → ⊥) → {q : Read} {k number : ℕ} → q ≡ recordAt s at → q ≡ Unread k → number ≡ numberOf q
+      → Ended s out₀ (Refused number n at) out
+  unfolding numberOf
+  ends-unread running {k = k} e f said =
+      rw (said ∙ ap numberOf f) (ends same-length k (rest-unread s (courseIn g a) at n (h .done) few running k (sym e ∙ f)))
+
+  pub ends-whole : g .phase ≡ 2 → length s ≤ at
+      → Ended s out₀ (Accepted (g .frame .width) (g .frame .construction) (g .frame .entered) (g .filled)) out
+  unfolding runIn boardIn
+  ends-whole closed l =
+      let told : accepted (courseIn g a) (h .done) ≡ tell s = sym (rest-whole s (courseIn g a) at n (h .done) few closed l) ∙ h .same in
+      record {
+        leaves = record {
+          outcome = rw (← told, h .long);
+          gathered = λ w c e b accepts.
+              let bytes : g .filled ≡ b = cc in
+              record { bytes = rw (← told) (h .long ∙ bytes); output = rw (← told) (h .wrote) };
+        };
         same-length = same-length;
       }
 
--- ---- a record out of its place
-misplaced-step : (x : Course) (r : Record) {k : ℕ} → k ≡ placeNo (x .phase) r → (k ≡ 0 → ⊥) → step k [] x ≡ stepOf x r
-unfolding stepOf
-misplaced-step x r e h = rw (← e, ne-eqb _ 0 h)
+-- ---- a record read at the head
+pub record Spot : Type 0 where
+  pub s : List ℕ
+  pub out₀ : List ℕ
+  pub out : List ℕ
+  pub g : Stage
+  pub a : Lent
+  pub at : ℕ
+  pub n : ℕ
+  pub item : Record
+  pub len : ℕ
+  pub going : Going s out₀ out g a at n
+  pub running : g .phase ≡ 2 → ⊥
+  pub read : recordAt s at ≡ Got item len
 
--- ---- a record carried out from the course x: its number, the course and the output after it
-pub record Done (s : List ℕ) (w : Bool) (x : Course) (at len filled : ℕ) (out : List ℕ) (number : ℕ) (y : Course) (filled′ : ℕ) (out′ : List ℕ) : Type 0 where
-  pub report : List ℕ
-  pub stepped : Stepped s x at len (step number report y)
-  pub most : length report ≤ 12
-  pub noted : Noted report w filled out filled′ out′
+module _ (c : Spot) where
+  abbrev now : Course
+  now = courseIn (c .g) (c .a)
 
-module _ {s out₀ : List ℕ} {w : Bool} {out : List ℕ} {x : Course} {at n filled len number : ℕ} (g : Going s out₀ w out x at n filled) where
-  pub ends-misplaced : (x .phase ≡ 2 → ⊥) → {q : Read} {item : Record} → q ≡ recordAt s at → q ≡ Got item len → number ≡ placeNo (x .phase) item
-      → (number ≡ 0 → ⊥) → Ended s out₀ w (Refused number n at) out
-  ends-misplaced running {item = item} e f said h =
-      let p : Stepped s x at len (step number [] x) = record {
-        running = running;
-        item = item;
-        read = sym e ∙ f;
-        did = misplaced-step x item said h;
-      } in
-      ends g (g .done) (g .wrote) number (rest-refused s x at n (g .done) (few g) len _ p h)
+  abbrev given : Step
+  given = stepOf now (c .item)
 
-  module _ {y : Course} {report : List ℕ} (p : Stepped s x at len (step number report y)) where
-    same-next : number ≡ 0 → tellFrom (suc (length s) - (n + 1)) s y (at + len) (n + 1) (g .done ++ report) ≡ tell s
-    same-next carried = sym (rest-passed s x at n (g .done) (few g) len _ p carried) ∙ g .same
+  stepped : Stepped (c .s) now (c .at) (c .len) given
+  stepped = record { running = c .running; item = c .item; read = c .read; did = refl }
 
-    length-next : length (g .done ++ report) ≡ filled + length report
-    length-next = length-append (g .done) report ∙ omega (arith, g .long)
+  pub spot-place : At (c .s) (c .at) (c .len)
+  spot-place = place stepped
 
-    small-enough : filled ≤ 1000000
-    small-enough = omega (arith, g .small, g .few, g .within, g .passable .short)
+  abbrev all-done : List ℕ
+  all-done = c .going .done ++ given .report
 
-    pub room-carried : number ≡ 0 → RoomFor report w filled out
-    room-carried carried = record {
-      few = small-enough;
-      enough = λ t. omega (arith, fitting g _ _ _ _ (same-next carried) t, length-next, same-length g);
-    }
+  length-done : length all-done ≡ c .g .filled + length (given .report)
+  length-done = length-append (c .going .done) (given .report) ∙ omega (arith, c .going .long)
 
-    pub room-none : report ≡ [] → RoomFor report w filled out
-    room-none e = rw e (record {
-      few = small-enough;
-      enough = λ t. omega (arith, fitting g x at n (g .done) (g .same) t, g .long, same-length g);
-    })
+  -- the record's own bytes, and those that the tokens inside stand for, pay for its report
+  paid : length all-done + 6 * insideSum (given .course .run .board) ≤ c .at + c .len
+  paid = omega (arith, c .going .paid, c .going .long, length-done, spot-place .onward, paid-step now (c .going .ready) (c .item))
 
-  module _ {y : Course} {filled′ : ℕ} {out′ : List ℕ} (d : Done s w x at len filled out number y filled′ out′) where
-    wrote-next : out′ ≡ cond w (over (g .done ++ d .report) out₀) out₀
-    wrote-next = over-next w out₀ out out′ (g .done) (d .report) filled (g .long) (g .wrote) (d .noted .output)
+  room : RoomFor (given .report) (c .g .filled) (c .out)
+  room =
+      let h = c .going in
+      record {
+        few = omega (arith, h .paid, h .long, h .within, h .passable .short);
+        enough = omega (arith, paid, length-done, spot-place .within, h .passable .room, same-length h);
+      }
 
-    pub ends-refused : (number ≡ 0 → ⊥) → Ended s out₀ w (Refused number n at) out′
-    ends-refused h = ends g (g .done ++ d .report) wrote-next number (rest-refused s x at n (g .done) (few g) len _ (d .stepped) h)
+  nothing-moved : c .g .phase ≡ 0 → boardIn 0 (c .a .toggles) (c .a .counts) (c .a .seats) ≡ freshBoard
+  unfolding runIn boardIn freshBoard
+  nothing-moved closed =
+      let e = c .going .ready .unopened closed in
+      let none : c .g .frame .entered ≡ 0 = ap (λ (b : Board). b .entered) e in
+      rw none at e
 
-    pub goes-on : number ≡ 0 → Going s out₀ w out′ y (at + len) (n + 1) filled′
+  pub able : Servable (c .g) (c .a) (c .item) (c .out)
+  able = record {
+    standing = record { held = c .going .held; unopened = nothing-moved; underway = c .going .ready .underway };
+    room = room;
+  }
+
+  module _ {r : Served} {a′ : Lent} {out′ : List ℕ} (d : Serves given (c .g .filled) (c .out) r a′ out′) where
+    wrote : out′ ≡ over all-done (c .out₀)
+    wrote = over-next (c .out₀) (c .out) out′ (c .going .done) (given .report) (c .g .filled) (c .going .long) (c .going .wrote) (d .noted .output)
+
+    length-after : length out′ ≡ length (c .out₀)
+    length-after = ap length wrote ∙ length-over all-done (c .out₀) (omega (arith, length-done, room .enough, same-length (c .going)))
+
+    pub ends-refused : (r .number ≡ 0 → ⊥) → Ended (c .s) (c .out₀) (Refused (r .number) (c .n) (c .at)) out′
+    ends-refused fault =
+        rw (d .number)
+        (ends (c .going) length-after (given .refusal)
+        (rest-refused (c .s) now (c .at) (c .n) (c .going .done) (few (c .going)) (c .len) given stepped (λ e. fault (d .number ∙ e))))
+
+    pub goes-on : r .number ≡ 0 → Going (c .s) (c .out₀) out′ (r .stage) a′ (c .at + c .len) (c .n + 1)
     goes-on carried =
-        let p = d .stepped in
+        let none : given .refusal ≡ 0 = sym (d .number) ∙ carried in
         record {
-          passable = g .passable;
-          within = place p .within;
-          few = omega (arith, g .few, place p .onward);
-          ready = rw (← p .did) at (ready-step x (g .ready) (p .item) (rw (← p .did) carried));
-          done = g .done ++ d .report;
-          long = length-next p ∙ sym (d .noted .counted);
-          small = omega (arith, g .small, d .noted .counted, d .most);
-          same = same-next p carried;
-          wrote = wrote-next;
+          passable = c .going .passable;
+          within = spot-place .within;
+          few = omega (arith, c .going .few, spot-place .onward);
+          ready = rw (d .course) (ready-step now (c .going .ready) (c .item) none);
+          held = d .held;
+          done = all-done;
+          long = length-done ∙ sym (d .noted .counted);
+          paid = rw (ap (λ (x : Course). x .run .board) (d .course)) paid;
+          same = rw (d .course) (sym (rest-passed (c .s) now (c .at) (c .n) (c .going .done) (few (c .going)) (c .len) given stepped none) ∙ c .going .same);
+          wrote = wrote;
         }

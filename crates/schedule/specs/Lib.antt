@@ -1,7 +1,2 @@
-pub mod Course
-pub mod Step
-pub mod Schedule
-pub mod Whole
-pub mod Room
+pub mod Serving
 pub mod Pass
-pub mod Case

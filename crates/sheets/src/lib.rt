@@ -9,8 +9,8 @@ ghost use Rattle.network.specs.Rows.{placeOf, rows};
 ghost use Rattle.sheets.specs.Sheets.{sheetLength, sheetNo, SheetIs, viewNo, chosen, ViewIs};
 use order::Filled;
 
-// A row, from an array, into a part of the sheet.
-fn put_row(out: &mut [u8], row: [u8; 64])
+// A row, from an array, into a part of a sheet.
+pub fn put_row(out: &mut [u8], row: [u8; network::ROW])
     requires { ⌜ length (now out) ≤ 64 ⌝ }
     ensures { λ _. ⌜ now (out .exit) ≡ take (length (now (out .entry))) row ⌝ }
 {

@@ -7,10 +7,10 @@ use Rattle.bench.proofs.put_schedule.Statement.{statement}
 use Rattle.bench.proofs.put_schedule.Tie as tie
 
 abbrev Inv-loop : tie.InvT-loop
-Inv-loop out₀ at₀ i₀ out at i = (i ≤ 468) × (length out ≡ length out₀)
+Inv-loop requests out₀ at₀ i₀ out at i = (i ≤ requests) × (length out ≡ length out₀)
 
 abbrev μ-loop : tie.MeasureT-loop
-μ-loop out₀ at₀ i₀ out at i = 468 - i
+μ-loop requests out₀ at₀ i₀ out at i = requests - i
 
 put-requires : tie.Need-put-requires Inv-loop μ-loop
 put-requires c κs = search needs

@@ -12,6 +12,9 @@ slice-aggregate-serve c = sym (length-replicate {A = ℕ} 262145 0)
 slice-aggregate-serve-2 : tie.Need-slice-aggregate-serve-2
 slice-aggregate-serve-2 c = sym (length-replicate {A = ℕ} 800000 0)
 
+slice-aggregate-serve-3 : tie.Need-slice-aggregate-serve-3
+slice-aggregate-serve-3 c = sym (length-replicate {A = ℕ} 65536 0)
+
 serve-requires : tie.Need-serve-requires
 serve-requires c κs = search needs
 
@@ -19,4 +22,4 @@ returns : tie.Need-returns
 returns c = search needs
 
 pub main-spec : {M : Type 1} → statement M
-main-spec = tie.close (tie.spec slice-aggregate-serve slice-aggregate-serve-2 serve-requires returns)
+main-spec = tie.close (tie.spec slice-aggregate-serve slice-aggregate-serve-2 slice-aggregate-serve-3 serve-requires returns)

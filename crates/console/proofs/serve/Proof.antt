@@ -1,18 +1,20 @@
-use Rattle.lines.specs.Bounds.{Held}
+-- `console::serve` is safe and ends: what the buffers hold stays within them. Assumes nothing.
+use Prim.Native.Nat.{_≤_}
 use mathlib.Core.Path.{_≡_}
 use lib.ListN.{length}
+use Rattle.console_lines.specs.Bounds.{Held}
 use borrow.Author.Needs.{needs}
 use Rattle.console.proofs.serve.Statement.{statement}
 use Rattle.console.proofs.serve.Tie as tie
 
 abbrev Inv-loop : tie.InvT-loop
-Inv-loop input₀ text₀ run₀ lines₀ turns₀ input text run lines turns = (length input ≡ length input₀) × (length text ≡ length text₀) × Held (lines .from) (lines .end) (lines .to) (length input)
+Inv-loop input₀ text₀ sheet₀ holding₀ lines₀ turns₀ input text sheet holding lines turns = (length input ≡ length input₀) × (length text ≡ length text₀) × (length sheet ≡ length sheet₀) × (holding .fed ≤ length sheet) × Held (lines .from) (lines .end) (lines .to) (length input)
 
 abbrev μ-loop : tie.MeasureT-loop
-μ-loop input₀ text₀ run₀ lines₀ turns₀ input text run lines turns = turns
+μ-loop input₀ text₀ sheet₀ holding₀ lines₀ turns₀ input text sheet holding lines turns = turns
 
-open-requires : tie.Need-open-requires Inv-loop μ-loop
-open-requires c κs = search needs
+at-first-requires : tie.Need-at-first-requires Inv-loop μ-loop
+at-first-requires c κs = search needs
 
 start-requires : tie.Need-start-requires Inv-loop μ-loop
 start-requires c κs = search needs
@@ -25,6 +27,9 @@ loop-holds c = search needs
 
 answer-held-requires : tie.Need-answer-held-requires Inv-loop μ-loop
 answer-held-requires c κs = search needs
+
+send-requires : tie.Need-send-requires Inv-loop μ-loop
+send-requires c κs = search needs
 
 next-line-requires-2 : tie.Need-next-line-requires-2 Inv-loop μ-loop
 next-line-requires-2 c κs = search needs
@@ -44,14 +49,20 @@ same-length c = search needs
 same-length-2 : tie.Need-same-length-2 Inv-loop μ-loop
 same-length-2 c = search needs
 
-returns : tie.Need-returns Inv-loop μ-loop
-returns c = search needs
-
 same-length-3 : tie.Need-same-length-3 Inv-loop μ-loop
 same-length-3 c = search needs
 
+returns : tie.Need-returns Inv-loop μ-loop
+returns c = search needs
+
 same-length-4 : tie.Need-same-length-4 Inv-loop μ-loop
 same-length-4 c = search needs
+
+same-length-5 : tie.Need-same-length-5 Inv-loop μ-loop
+same-length-5 c = search needs
+
+same-length-6 : tie.Need-same-length-6 Inv-loop μ-loop
+same-length-6 c = search needs
 
 returns-2 : tie.Need-returns-2 Inv-loop μ-loop
 returns-2 c = search needs
@@ -62,18 +73,21 @@ serve-spec =
     (tie.spec
     Inv-loop
     μ-loop
-    open-requires
+    at-first-requires
     start-requires
     next-line-requires
     loop-holds
     answer-held-requires
+    send-requires
     next-line-requires-2
     sub-turns
     loop-less
     loop-again
     same-length
     same-length-2
-    returns
     same-length-3
+    returns
     same-length-4
+    same-length-5
+    same-length-6
     returns-2)

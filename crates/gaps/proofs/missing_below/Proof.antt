@@ -19,7 +19,7 @@ use Rattle.gaps.proofs.missing_below.Tie as tie
 record Summed (w : ℕ) (counts : List ℕ) (n total i : ℕ) : Type 0 where
   within : i ≤ w
   so-far : total ≡ sum i (λ k. share n k w - getD counts k 0)
-  small : total ≤ i * 64000064
+  small : total ≤ i * 1000064
 
 abbrev Inv-loop : tie.InvT-loop
 Inv-loop w counts n total₀ i₀ total i = Summed w counts n total i

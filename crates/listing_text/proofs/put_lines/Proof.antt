@@ -1,19 +1,18 @@
 -- `listing_text::put_lines` meets its contract. The loop's invariant: the lines of the reports left, put where the text has got to, give
 -- the whole. The measure is the reports left. Assumes nothing.
+use Rattle.listing_text.proofs.Lines.{Going, begins, ends, goes-on}
 use borrow.Author.Needs.{needs}
-use Rattle.listing_text.proofs.Text.{puts-length}
-use Rattle.listing_text.proofs.Lines.{Going, begins, ends, line-ends, goes-on}
 use Rattle.listing_text.proofs.put_lines.Statement.{statement}
 use Rattle.listing_text.proofs.put_lines.Tie as tie
 
 abbrev Inv-loop : tie.InvT-loop
-Inv-loop out₀ at reports count next₀ left₀ from₀ out next left from = Going reports count at out₀ next left from out
+Inv-loop out₀ at reports bytes next₀ left₀ from₀ out next left from = Going reports bytes at out₀ next left from out
 
 abbrev μ-loop : tie.MeasureT-loop
-μ-loop out₀ at reports count next₀ left₀ from₀ out next left from = left
+μ-loop out₀ at reports bytes next₀ left₀ from₀ out next left from = left
 
 loop-holds : tie.Need-loop-holds Inv-loop μ-loop
-loop-holds c = begins _ _ _ _ (c .before .before .pre)
+loop-holds c = begins _ _ _ _
 
 add-field-of-two : tie.Need-add-field-of-two Inv-loop μ-loop
 add-field-of-two c = search needs
@@ -43,7 +42,7 @@ cast-number : tie.Need-cast-number Inv-loop μ-loop
 cast-number c = search needs
 
 put-three-requires : tie.Need-put-three-requires Inv-loop μ-loop
-put-three-requires c κs = line-ends (c .before .before .before .before .before .loop .inv) (c .before .before .before .before .loop-test .taken) (c .before .before .before .field-of-two .ensures) (c .before .before .field-of-two2 .ensures) (c .before .field-of-four .ensures) (c .before .before .before .before .before .before .before .before .pre)
+put-three-requires c κs = search needs
 
 add-from : tie.Need-add-from Inv-loop μ-loop
 add-from c = search needs
@@ -58,7 +57,7 @@ loop-again : tie.Need-loop-again Inv-loop μ-loop
 loop-again c = goes-on (c .before .before .before .before .before .before .before .before .loop .inv) (c .before .before .before .before .before .before .before .loop-test .taken) (c .before .before .before .before .before .before .field-of-two .ensures) (c .before .before .before .before .before .field-of-two2 .ensures) (c .before .before .before .before .field-of-four .ensures) (c .before .before .put-three .ensures)
 
 same-length : tie.Need-same-length Inv-loop μ-loop
-same-length c = puts-length (ends (c .before .loop .inv) (c .loop-test .left))
+same-length c = c .before .loop .inv .leads .same
 
 returns : tie.Need-returns Inv-loop μ-loop
 returns c = ends (c .before .loop .inv) (c .loop-test .left)

@@ -1,6 +1,6 @@
 -- `listing_text::put_name` meets its contract: a name for each construction. Assumes nothing.
 use borrow.Author.Tests.{eq-eqb, ne-eqb}
-use Rattle.listing_text.specs.Text.{letters}
+use Rattle.text.specs.Text.{letters}
 use Rattle.listing_text.specs.Lines.{nameOf}
 use borrow.Author.Needs.{needs}
 use Rattle.listing_text.proofs.put_name.Statement.{statement}
@@ -10,8 +10,7 @@ slice-aggregate-put-text : tie.Need-slice-aggregate-put-text
 slice-aggregate-put-text c = search needs
 
 put-text-requires : tie.Need-put-text-requires
-unfolding nameOf letters
-put-text-requires c κs = rw (eq-eqb _ 1 (c .before .before .if1 .taken)) at (c .before .before .before .before .pre)
+put-text-requires c κs = search needs
 
 same-length : tie.Need-same-length
 same-length c = search needs
@@ -24,8 +23,7 @@ slice-aggregate-put-text-2 : tie.Need-slice-aggregate-put-text-2
 slice-aggregate-put-text-2 c = search needs
 
 put-text-requires-2 : tie.Need-put-text-requires-2
-unfolding nameOf letters
-put-text-requires-2 c κs = rw (ne-eqb _ 1 (c .before .before .if1 .left)) at (c .before .before .before .before .pre)
+put-text-requires-2 c κs = search needs
 
 same-length-2 : tie.Need-same-length-2
 same-length-2 c = search needs

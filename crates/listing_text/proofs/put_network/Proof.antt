@@ -1,7 +1,7 @@
 -- `listing_text::put_network` meets its contract: the word, the width and the name, one behind another. Assumes nothing.
-use Rattle.listing_text.specs.Text.{letters}
+use Rattle.text.specs.Text.{letters}
 use Rattle.listing_text.specs.Lines.{networkLine}
-use Rattle.listing_text.proofs.Text.{puts-then, first-ends, rest-ends}
+use Rattle.text.proofs.Text.{puts-then}
 use borrow.Author.Needs.{needs}
 use Rattle.listing_text.proofs.put_network.Statement.{statement}
 use Rattle.listing_text.proofs.put_network.Tie as tie
@@ -13,12 +13,10 @@ put-text-requires : tie.Need-put-text-requires
 put-text-requires c κs = search needs
 
 put-number-requires : tie.Need-put-number-requires
-unfolding networkLine letters
-put-number-requires c κs = first-ends _ (rest-ends (c .before .before .before .before .before .before .before .pre) (c .before .before .before .put-text .ensures))
+put-number-requires c κs = search needs
 
 put-name-requires : tie.Need-put-name-requires
-unfolding networkLine letters
-put-name-requires c κs = rest-ends (rest-ends (c .before .before .before .before .before .before .before .before .before .before .before .pre) (c .before .before .before .before .before .before .before .put-text .ensures)) (c .before .before .before .put-number .ensures)
+put-name-requires c κs = search needs
 
 same-length : tie.Need-same-length
 same-length c = search needs

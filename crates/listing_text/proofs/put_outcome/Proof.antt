@@ -8,8 +8,7 @@ enum-known-outcome : tie.Need-enum-known-outcome
 enum-known-outcome c = search needs
 
 put-accepted-requires : tie.Need-put-accepted-requires
-unfolding textOf
-put-accepted-requires c κs = rw (c .before .before .outcome .given .1) at (c .before .before .before .before .before .before .pre)
+put-accepted-requires c κs = search needs
 
 enum-known-outcome-2 : tie.Need-enum-known-outcome-2
 enum-known-outcome-2 c = search needs
@@ -18,8 +17,7 @@ cast-put-refused : tie.Need-cast-put-refused
 cast-put-refused c = search needs
 
 put-refused-requires : tie.Need-put-refused-requires
-unfolding textOf
-put-refused-requires c κs = rw (c .before .before .outcome2 .given .1) at (c .before .before .before .before .before .before .pre)
+put-refused-requires c κs = search needs
 
 same-length : tie.Need-same-length
 same-length c = search needs

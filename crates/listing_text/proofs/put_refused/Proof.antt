@@ -1,7 +1,7 @@
 -- `listing_text::put_refused` meets its contract: the word, and the three numbers behind it. Assumes nothing.
-use Rattle.listing_text.specs.Text.{letters}
+use Rattle.text.specs.Text.{letters}
 use Rattle.listing_text.specs.Lines.{refusedLine}
-use Rattle.listing_text.proofs.Text.{puts-then, rest-ends}
+use Rattle.text.proofs.Text.{puts-then}
 use borrow.Author.Needs.{needs}
 use Rattle.listing_text.proofs.put_refused.Statement.{statement}
 use Rattle.listing_text.proofs.put_refused.Tie as tie
@@ -10,12 +10,10 @@ slice-aggregate-put-text : tie.Need-slice-aggregate-put-text
 slice-aggregate-put-text c = search needs
 
 put-text-requires : tie.Need-put-text-requires
-unfolding refusedLine letters
 put-text-requires c κs = search needs
 
 put-three-requires : tie.Need-put-three-requires
-unfolding refusedLine letters
-put-three-requires c κs = rest-ends (c .before .before .before .before .before .before .before .pre) (c .before .before .before .put-text .ensures)
+put-three-requires c κs = search needs
 
 same-length : tie.Need-same-length
 same-length c = search needs

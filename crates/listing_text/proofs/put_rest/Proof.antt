@@ -1,7 +1,7 @@
 -- `listing_text::put_rest` meets its contract: the word, and the number behind it. Assumes nothing.
-use Rattle.listing_text.specs.Text.{letters}
+use Rattle.text.specs.Text.{letters}
 use Rattle.listing_text.specs.Lines.{restLine}
-use Rattle.listing_text.proofs.Text.{puts-then, first-ends, rest-ends}
+use Rattle.text.proofs.Text.{puts-then}
 use borrow.Author.Needs.{needs}
 use Rattle.listing_text.proofs.put_rest.Statement.{statement}
 use Rattle.listing_text.proofs.put_rest.Tie as tie
@@ -10,12 +10,10 @@ slice-aggregate-put-text : tie.Need-slice-aggregate-put-text
 slice-aggregate-put-text c = search needs
 
 put-text-requires : tie.Need-put-text-requires
-unfolding restLine letters
-put-text-requires c κs = first-ends _ (c .before .before .before .pre)
+put-text-requires c κs = search needs
 
 put-number-requires : tie.Need-put-number-requires
-unfolding restLine letters
-put-number-requires c κs = rest-ends (c .before .before .before .before .before .before .before .pre) (c .before .before .before .put-text .ensures)
+put-number-requires c κs = search needs
 
 same-length : tie.Need-same-length
 same-length c = search needs

@@ -11,8 +11,11 @@ cell-at-requires c κs = search needs
 toggle-at-requires : tie.Need-toggle-at-requires
 toggle-at-requires c κs = search needs
 
-outlet-requires : tie.Need-outlet-requires
-outlet-requires c κs = search needs
+shown-requires : tie.Need-shown-requires
+shown-requires c κs = search needs
+
+wire-of-requires : tie.Need-wire-of-requires
+wire-of-requires c κs = search needs
 
 add-level : tie.Need-add-level
 add-level c = search needs
@@ -28,7 +31,7 @@ element-set-from-there c = search needs
 
 returns : tie.Need-returns
 unfolding passing downAt
-returns c = rw (← c .before .before .before .before .before .before .before .before .pre .1 .0, c .put-toggle .ensures, c .before .before .before .outlet .ensures, c .before .before .before .before .toggle-at .ensures, c .before .before .before .before .before .before .before .cell-at .ensures)
+returns c = rw (← c .before .before .before .before .before .before .before .before .pre .1 .0, c .put-toggle .ensures, c .before .before .wire-of .ensures, c .before .before .before .shown .ensures, c .before .before .before .before .toggle-at .ensures, c .before .before .before .before .before .before .before .cell-at .ensures)
 
 pub pass-spec : {M : Type 1} → statement M
 pass-spec =
@@ -36,7 +39,8 @@ pass-spec =
     (tie.spec
     cell-at-requires
     toggle-at-requires
-    outlet-requires
+    shown-requires
+    wire-of-requires
     add-level
     put-toggle-requires
     mul-there

@@ -45,22 +45,22 @@ module _ (t : ℕ) where
   feed-row-requires : lts.Need-feed-row-requires told at reads.Post
   feed-row-requires c κs =
       let s = c .before .before .before in
-      (halved (s .args .k) (s .args .w) (s .pre .1 .0) (s .pre .1 .1) (some s) .small, bitonic-inner (s .args .k) (s .args .w) (s .args .layer) _ (s .pre .1 .0) (s .pre .1 .1) (s .pre .1 .2) (c .before .before .bitonic-depth .ensures) (c .before .if1 .taken) _ (c .bitonic-row .ensures))
+      (halved (s .args .k) (s .args .w) (s .pre .1 .0) (s .pre .1 .1) (some s) .small, bitonic-inner (s .args .k) (s .args .w) (s .args .layer) _ (s .pre .1 .0) (s .pre .1 .1) (some s) (c .before .before .bitonic-depth .ensures) (c .before .if1 .taken) _ (c .bitonic-row .ensures))
 
   returns : lts.Need-returns told at reads.Post
   returns c =
       let s = c .before .before .before .before in
-      c .feed-row .ensures ∙ bitonic-fed (s .args .k) (s .args .w) (s .args .layer) _ (s .pre .1 .0) (s .pre .1 .1) (s .pre .1 .2) (c .before .before .before .bitonic-depth .ensures) (c .before .before .if1 .taken) _ (c .before .bitonic-row .ensures)
+      c .feed-row .ensures ∙ bitonic-fed (s .args .k) (s .args .w) (s .args .layer) _ (s .pre .1 .0) (s .pre .1 .1) (some s) (c .before .before .before .bitonic-depth .ensures) (c .before .before .if1 .taken) _ (c .before .bitonic-row .ensures)
 
   part-row-requires : lts.Need-part-row-requires told at reads.Post
   part-row-requires c κs =
       let s = c .before .before in
-      (s .pre .1 .0, s .pre .1 .1, merger-layer (s .args .k) (s .args .w) (s .args .layer) _ (s .pre .1 .0) (s .pre .1 .1) (s .pre .1 .2) (c .before .bitonic-depth .ensures) (c .if1 .left))
+      (s .pre .1 .0, s .pre .1 .1, merger-layer (s .args .k) (s .args .w) (s .args .layer) _ (s .pre .1 .0) (s .pre .1 .1) (some s) (c .before .bitonic-depth .ensures) (c .if1 .left) (s .pre .1 .2))
 
   returns-2 : lts.Need-returns-2 told at reads.Post
   returns-2 c =
       let s = c .before .before .before in
-      c .part-row .ensures ∙ bitonic-merged (s .args .k) (s .args .w) (s .args .layer) _ (s .pre .1 .0) (s .pre .1 .1) (s .pre .1 .2) (c .before .before .bitonic-depth .ensures) (c .before .if1 .left)
+      c .part-row .ensures ∙ bitonic-merged (s .args .k) (s .args .w) (s .args .layer) _ (s .pre .1 .0) (s .pre .1 .1) (some s) (c .before .before .bitonic-depth .ensures) (c .before .if1 .left)
 
 pub +bitonic-row-spec : {M : Type 1} → statement M
 +bitonic-row-spec =

@@ -36,7 +36,7 @@ module _ (t : ℕ) where
   returns : lts.Need-returns told at reads.Post
   returns c =
       let s = c .before .before in
-      c .last-row .ensures ∙ part-last (s .args .feed) (s .args .k) (s .args .w) (s .args .layer) (s .pre .1 .0) (s .pre .1 .1) (s .pre .1 .2) (c .before .if1 .taken)
+      c .last-row .ensures ∙ part-last (s .args .feed) (s .args .k) (s .args .w) (s .args .layer) (s .pre .1 .0) (s .pre .1 .1) (omega arith) (c .before .if1 .taken)
 
   sub-part-row : lts.Need-sub-part-row told at reads.Post
   sub-part-row c = omega arith
@@ -52,12 +52,12 @@ module _ (t : ℕ) where
   feed-row-requires : lts.Need-feed-row-requires told at reads.Post
   feed-row-requires c κs =
       let s = c .before .before .before in
-      (halved (s .args .k) (s .args .w) (s .pre .1 .0) (s .pre .1 .1) (omega arith) .small, part-inner (s .args .feed) (s .args .k) (s .args .w) (s .args .layer) (s .pre .1 .0) (s .pre .1 .1) (s .pre .1 .2) _ (c .before .part-row .ensures))
+      (halved (s .args .k) (s .args .w) (s .pre .1 .0) (s .pre .1 .1) (omega arith) .small, part-inner (s .args .feed) (s .args .k) (s .args .w) (s .args .layer) (s .pre .1 .0) (s .pre .1 .1) (omega arith) _ (c .before .part-row .ensures))
 
   returns-2 : lts.Need-returns-2 told at reads.Post
   returns-2 c =
       let s = c .before .before .before .before in
-      c .feed-row .ensures ∙ part-fed (s .args .feed) (s .args .k) (s .args .w) (s .args .layer) (s .pre .1 .0) (s .pre .1 .1) (s .pre .1 .2) _ (c .before .before .part-row .ensures) _ (c .before .before .before .if1 .left) (c .before .feed-at .ensures)
+      c .feed-row .ensures ∙ part-fed (s .args .feed) (s .args .k) (s .args .w) (s .args .layer) (s .pre .1 .0) (s .pre .1 .1) (omega arith) _ (c .before .before .part-row .ensures) _ (c .before .before .before .if1 .left) (c .before .feed-at .ensures)
 
 pub +part-row-spec : {M : Type 1} → statement M
 +part-row-spec =

@@ -14,7 +14,7 @@ bitonic-row-requires c κs =
 returns : tie.Need-returns
 returns c =
     let s = c .before .before in
-    c .bitonic-row .ensures ∙ place-bitonic (s .args .construction) (s .args .k) (s .args .w) (s .args .layer) (c .before .if1 .taken)
+    c .bitonic-row .ensures ∙ place-bitonic (s .args .construction) (s .args .k) (s .args .layer) (s .args .w) (c .before .if1 .taken)
 
 some : (c : tie.Else1) → 0 < c .before .args .k
 some c =
@@ -30,7 +30,7 @@ part-row-requires c κs = (c .before .pre .0, c .before .pre .1, mod-lt (c .befo
 returns-2 : tie.Need-returns-2
 returns-2 c =
     let s = c .before .before in
-    c .part-row .ensures ∙ place-periodic (s .args .construction) (s .args .k) (s .args .w) (s .args .layer) (c .before .if1 .left)
+    c .part-row .ensures ∙ place-periodic (s .args .construction) (s .args .k) (s .args .layer) (s .args .w) (c .before .if1 .left)
 
 pub built-row-spec : {M : Type 1} → statement M
 built-row-spec =

@@ -5,6 +5,7 @@ use Prim.Native.Nat.{_≤_, _-_, _*_}
 use native.Mathlib.Omega.{arith}
 use lib.ListN.{length, length-set}
 use Rattle.network.specs.Wiring.{lastAt}
+use Rattle.network.proofs.Feeds.{last-below}
 use Rattle.network.proofs.Arrays.{RowIs, row-none, row-more, row-at}
 use Rattle.network.proofs.last_row.Statement.{statement}
 use Rattle.network.proofs.last_row.Tie as tie
@@ -23,6 +24,11 @@ mul-loop c = omega arith
 
 last-place-requires : tie.Need-last-place-requires Inv-loop μ-loop
 last-place-requires c κs = omega arith
+
+cast-out : tie.Need-cast-out Inv-loop μ-loop
+cast-out c =
+    let at-loop = c .before .before in
+    omega (arith, c .last-place .ensures, last-below (at-loop .before .args .h) (at-loop .loop .v) (omega arith))
 
 array-write-out : tie.Need-array-write-out Inv-loop μ-loop
 array-write-out c = omega arith
@@ -50,6 +56,7 @@ last-row-spec =
     loop-holds
     mul-loop
     last-place-requires
+    cast-out
     array-write-out
     add-v
     loop-less

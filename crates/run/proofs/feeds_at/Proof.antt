@@ -1,22 +1,21 @@
--- `run::feeds_at` meets its contract: the byte of a wire in a row is the place that it feeds. Assumes nothing.
-use borrow.Author.Needs.{needs}
+-- `run::feeds_at` meets its contract: a place in a layer lies below the width, so it fits a byte. Assumes nothing.
 use native.Mathlib.Omega.{arith}
+use borrow.Author.Needs.{needs}
 use Rattle.network.proofs.Widths.{layered}
-use Rattle.network.proofs.Rows.{rowArray-at}
+use Rattle.network.proofs.Rows.{placeOf-below}
 use Rattle.run.proofs.feeds_at.Statement.{statement}
 use Rattle.run.proofs.feeds_at.Tie as tie
 
-row-requires : tie.Need-row-requires
-row-requires c κs = search needs
+place-of-requires : tie.Need-place-of-requires
+place-of-requires c κs = search needs
 
-cast-at : tie.Need-cast-at
-cast-at c = search needs
-
-array-read-result : tie.Need-array-read-result
-array-read-result c = omega (arith, layered _ _ _ (c .before .before .pre .0) .small)
+cast-result : tie.Need-cast-result
+cast-result c =
+    let s = c .before in
+    omega (arith, c .place-of .ensures, placeOf-below _ _ _ (s .pre .0) _ (s .pre .1), layered _ _ _ (s .pre .0) .small)
 
 returns : tie.Need-returns
-returns c = rw (c .before .row .ensures) (rowArray-at _ _ _ (c .before .before .pre .0) _ (c .before .before .pre .1))
+returns c = search needs
 
 pub feeds-at-spec : {M : Type 1} → statement M
-feeds-at-spec = tie.close (tie.spec row-requires cast-at array-read-result returns)
+feeds-at-spec = tie.close (tie.spec place-of-requires cast-result returns)

@@ -1,5 +1,5 @@
 -- `schedule::misplaced` meets its contract, by the kind of the record. Assumes nothing.
-use Rattle.schedule.specs.Step.{placeNo}
+use Rattle.outcome.specs.Step.{placeNo}
 use borrow.Author.Needs.{needs}
 use Rattle.schedule.proofs.misplaced.Statement.{statement}
 use Rattle.schedule.proofs.misplaced.Tie as tie

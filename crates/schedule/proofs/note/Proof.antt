@@ -1,5 +1,5 @@
 -- `schedule::note` meets its contract, by the answer's case. Assumes nothing.
-use Rattle.schedule.specs.Step.{reportOf}
+use Rattle.outcome.specs.Step.{reportOf}
 use Rattle.schedule.proofs.Reports.{noted-none}
 use borrow.Author.Needs.{needs}
 use Rattle.schedule.proofs.note.Statement.{statement}
@@ -20,7 +20,7 @@ enum-told-2 c = search needs
 
 returns : tie.Need-returns
 unfolding reportOf
-returns c = rw (c .enum-told .given .1) (noted-none _ _ _)
+returns c = rw (c .enum-told .given .1) (noted-none _ _)
 
 same-length : tie.Need-same-length
 same-length c = search needs
@@ -31,7 +31,7 @@ returns-2 c = rw (c .before .before .before .before .before .answer .given .1) (
 
 returns-3 : tie.Need-returns-3
 unfolding reportOf
-returns-3 c = rw (c .enum-told2 .given .1) (noted-none _ _ _)
+returns-3 c = rw (c .enum-told2 .given .1) (noted-none _ _)
 
 pub note-spec : {M : Type 1} → statement M
 note-spec =

@@ -1,6 +1,6 @@
 -- `schedule::out_of_phase` meets its contract: each return is the first number whose condition holds. Assumes nothing.
 use Rattle.order.proofs.Order.{order}
-use Rattle.schedule.specs.Step.{phaseNo}
+use Rattle.outcome.specs.Step.{phaseNo}
 use Rattle.schedule.proofs.out_of_phase.Statement.{statement}
 use Rattle.schedule.proofs.out_of_phase.Tie as tie
 

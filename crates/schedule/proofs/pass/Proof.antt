@@ -1,71 +1,51 @@
--- `schedule::pass` meets its contract. The loop's invariant: the run is sound between the open and the close, the reports done are
--- in front of the output where they are written, and what is told from this record on is what the whole schedule tells. The
--- measure is the bytes left. Assumes nothing.
+-- `schedule::pass` meets its contract. The loop's invariant: the run that the arrays hold is sound between the open and the close, the
+-- reports done are in front of the buffer, and what is told from this record on is what the whole schedule tells. The measure is the
+-- bytes left. Assumes nothing.
 use Prim.Native.Nat.{_-_}
 use mathlib.Core.Path.{sym, _∙_}
-use mathlib.Core.Logic.{⊎-elim}
 use native.Mathlib.Omega.{arith}
 use borrow.Author.Needs.{needs}
 use lib.ListN.{length}
-use Rattle.schedule.specs.Course.{course, atStart}
-use Rattle.order.specs.Order.{firstOf}
-use Rattle.network.specs.Widths.{widthOk, openNo}
-use Rattle.run.specs.Run.{openOf}
-use Rattle.schedule.proofs.Told.{place}
-use Rattle.schedule.proofs.Loop.{Going, begins, ends-late, ends-whole, ends-unread, ends-misplaced, ends-refused, goes-on}
-use Rattle.schedule.proofs.Spot.{Spot, Gives, underway-enter, underway-turn, room-turn, gives-open, gives-enter, gives-turn, gives-close, never-report}
+use Rattle.in_place.specs.Seats.{seats}
+use Rattle.in_place.specs.Held.{lent}
+use Rattle.schedule.proofs.Loop.{Going, begins, ends-late, ends-unread, ends-whole, Spot, spot-place, able, ends-refused, goes-on}
 use Rattle.schedule.proofs.pass.Statement.{statement}
 use Rattle.schedule.proofs.pass.Tie as tie
 
 abbrev Inv-loop : tie.InvT-loop
-Inv-loop bytes out₀ writing phase₀ run₀ at₀ record₀ filled₀ out phase run at n filled = Going bytes out₀ writing out (course phase run) at n filled
+Inv-loop bytes out₀ stage₀ table₀ toggles₀ counts₀ inside₀ level₀ wire₀ at₀ record₀ out stage table toggles counts inside level wire at «record» =
+    Going bytes out₀ out stage (lent table toggles counts (seats inside level wire)) at «record»
 
 abbrev μ-loop : tie.MeasureT-loop
-μ-loop bytes out₀ writing phase₀ run₀ at₀ record₀ filled₀ out phase run at n filled = length bytes - at
+μ-loop bytes out₀ stage₀ table₀ toggles₀ counts₀ inside₀ level₀ wire₀ at₀ record₀ out stage table toggles counts inside level wire at «record» =
+    length bytes - at
 
-abbrev spot : tie.Else1 Inv-loop μ-loop → Spot
+abbrev spot : tie.After-known-told Inv-loop μ-loop → Spot
 spot c =
-    let at-read = c .before .before .before .before .before in
+    let at-read = c .before .before .before in
     record {
       s = _;
       out₀ = _;
-      w = _;
       out = _;
-      x = _;
+      g = _;
+      a = _;
       at = _;
       n = _;
-      filled = _;
       item = _;
       len = _;
-      going = at-read .before .before .loop .inv;
-      running = at-read .before .loop-test .taken;
-      read = sym (at-read .read-at .ensures) ∙ c .before .before .before .read .given .1;
-      right = sym (c .before .misplaced .ensures) ∙ c .if1 .left;
+      going = at-read .before .before .before .loop .inv;
+      running = at-read .before .if1 .taken;
+      read = sym (at-read .read-at .ensures) ∙ c .before .read .given .1;
     }
 
-gives : (c : tie.At-match2-came Inv-loop μ-loop) → Gives (spot (c .before)) (c .match2 .number) (course (c .match2 .phase) (c .match2 .run)) (c .match2 .filled) (c .match2 .out)
-gives c =
-    let x = spot (c .before) in
-    ⊎-elim
-    (λ w. rw (w .5, w .6, w .7, w .8, w .9) (gives-open x (w .1 .given .1) (w .3 .ensures)))
-    (⊎-elim
-    (λ w. rw (w .5, w .6, w .7, w .8, w .9) (gives-enter x (w .1 .given .1) (w .3 .ensures)))
-    (⊎-elim
-    (λ w. rw (w .10, w .11, w .12, w .13, w .14) (gives-turn x (w .1 .given .1) (w .3 .ensures) (w .4 .ensures) (w .6 .ensures)))
-    (⊎-elim
-    (λ w. rw (w .4, w .5, w .6, w .7, w .8) (gives-close x (w .1 .given .1) (w .3 .ensures)))
-    (λ w. absurd (never-report x (w .1 .given .1))))))
-    (c .match2 .came)
-
-open-requires : tie.Need-open-requires Inv-loop μ-loop
-open-requires c κs = search needs
+no-frame-requires : tie.Need-no-frame-requires Inv-loop μ-loop
+no-frame-requires c κs = search needs
 
 loop-holds : tie.Need-loop-holds Inv-loop μ-loop
-unfolding atStart openOf openNo widthOk firstOf
-loop-holds c = begins _ _ _ _ (c .before .before .before .before .pre) (rw (c .before .«open» .ensures))
+loop-holds c = begins (c .before .before .before .pre) (c .no-frame .ensures)
 
 read-at-requires : tie.Need-read-at-requires Inv-loop μ-loop
-read-at-requires c κs = search needs
+read-at-requires c κs = c .before .before .loop .inv .within
 
 enum-known-read : tie.Need-enum-known-read Inv-loop μ-loop
 enum-known-read c = search needs
@@ -82,115 +62,70 @@ refused-requires c κs = search needs
 same-length : tie.Need-same-length Inv-loop μ-loop
 same-length c =
     let at-read = c .before .before .before .before in
-    ends-unread (at-read .before .before .loop .inv) (at-read .before .loop-test .taken) (at-read .read-at .ensures)
-    (c .before .before .enum-told .given .1) (c .before .number-of .ensures) .same-length
+    (ends-unread (at-read .before .before .before .loop .inv) (at-read .before .if1 .taken) (at-read .read-at .ensures)
+    (c .before .before .enum-told .given .1) (c .before .number-of .ensures) .same-length)
 
 returns : tie.Need-returns Inv-loop μ-loop
 returns c =
     let at-read = c .before .before .before .before in
-    rw (c .refused .ensures)
-    (ends-unread (at-read .before .before .loop .inv) (at-read .before .loop-test .taken) (at-read .read-at .ensures)
+    rw (c .refused .ensures) (ends-unread (at-read .before .before .before .loop .inv) (at-read .before .if1 .taken) (at-read .read-at .ensures)
     (c .before .before .enum-told .given .1) (c .before .number-of .ensures) .leaves)
 
-misplaced-requires : tie.Need-misplaced-requires Inv-loop μ-loop
-misplaced-requires c κs = search needs
+serve-requires : tie.Need-serve-requires Inv-loop μ-loop
+serve-requires c κs = able (spot (c .before .before .before .before .before .before .before))
 
 refused-requires-2 : tie.Need-refused-requires-2 Inv-loop μ-loop
 refused-requires-2 c κs = search needs
 
 same-length-2 : tie.Need-same-length-2 Inv-loop μ-loop
 same-length-2 c =
-    let at-read = c .before .before .before .before .before .before in
-    ends-misplaced (at-read .before .before .loop .inv) (at-read .before .loop-test .taken) (at-read .read-at .ensures)
-    (c .before .before .before .before .read .given .1) (c .before .before .misplaced .ensures) (c .before .if1 .taken) .same-length
+    let at-serve = c .before .before .before .before .before in
+    let q = spot (at-serve .before .before .before .before .before .before .before .before) in
+    (ends-refused q (at-serve .serve .ensures) (c .before .if2 .taken) .same-length)
 
 returns-2 : tie.Need-returns-2 Inv-loop μ-loop
 returns-2 c =
-    let at-read = c .before .before .before .before .before .before in
-    rw (c .refused2 .ensures)
-    (ends-misplaced (at-read .before .before .loop .inv) (at-read .before .loop-test .taken) (at-read .read-at .ensures)
-    (c .before .before .before .before .read .given .1) (c .before .before .misplaced .ensures) (c .before .if1 .taken) .leaves)
+    let at-serve = c .before .before .before .before .before in
+    let q = spot (at-serve .before .before .before .before .before .before .before .before) in
+    rw (c .refused2 .ensures) (ends-refused q (at-serve .serve .ensures) (c .before .if2 .taken) .leaves)
 
-enum-known-item : tie.Need-enum-known-item Inv-loop μ-loop
-enum-known-item c = search needs
+add-at : tie.Need-add-at Inv-loop μ-loop
+add-at c =
+    let q = spot (c .before .before .before .before .before .before .before .before .before .before .before .before .before) in
+    omega (arith, spot-place q .within, q .going .passable .short)
 
-open-requires-2 : tie.Need-open-requires-2 Inv-loop μ-loop
-open-requires-2 c κs = search needs
+add-record : tie.Need-add-record Inv-loop μ-loop
+add-record c =
+    let g = spot (c .before .before .before .before .before .before .before .before .before .before .before .before .before) .going in
+    omega (arith, g .few, g .within)
 
-enum-known-item-2 : tie.Need-enum-known-item-2 Inv-loop μ-loop
-enum-known-item-2 c = search needs
+loop-less : tie.Need-loop-less Inv-loop μ-loop
+loop-less c =
+    let p = spot-place (spot (c .before .before .before .before .before .before .before .before .before .before .before .before .before)) in
+    omega (arith, p .onward, p .within)
 
-enter-sound-requires : tie.Need-enter-sound-requires Inv-loop μ-loop
-enter-sound-requires c κs = underway-enter (spot (c .before .before .before)) (c .before .item2 .given .1)
-
-enum-known-item-3 : tie.Need-enum-known-item-3 Inv-loop μ-loop
-enum-known-item-3 c = search needs
-
-turn-sound-requires : tie.Need-turn-sound-requires Inv-loop μ-loop
-turn-sound-requires c κs = underway-turn (spot (c .before .before .before)) (c .before .item3 .given .1)
-
-refusal-of-requires : tie.Need-refusal-of-requires Inv-loop μ-loop
-refusal-of-requires c κs = search needs
-
-note-requires : tie.Need-note-requires Inv-loop μ-loop
-note-requires c κs =
-    let at-turn = c .before .before in
-    room-turn (spot (at-turn .before .before .before .before)) (at-turn .before .before .item3 .given .1) (at-turn .turn-sound .ensures)
-
-enum-known-item-4 : tie.Need-enum-known-item-4 Inv-loop μ-loop
-enum-known-item-4 c = search needs
-
-close-refusal-requires : tie.Need-close-refusal-requires Inv-loop μ-loop
-close-refusal-requires c κs = search needs
-
-enum-told-2 : tie.Need-enum-told-2 Inv-loop μ-loop
-enum-told-2 c = search needs
+loop-again : tie.Need-loop-again Inv-loop μ-loop
+loop-again c =
+    let at-serve = c .before .before .before .before .before in
+    goes-on (spot (at-serve .before .before .before .before .before .before .before .before)) (at-serve .serve .ensures) (c .before .if2 .left)
 
 refused-requires-3 : tie.Need-refused-requires-3 Inv-loop μ-loop
 refused-requires-3 c κs = search needs
 
 same-length-3 : tie.Need-same-length-3 Inv-loop μ-loop
-same-length-3 c = ends-refused (spot (c .before .before .before) .going) (gives (c .before .before)) (c .before .if2 .taken) .same-length
+same-length-3 c = ends-late (c .before .before .before .before .loop .inv) (c .before .before .if1 .left) (c .before .if3 .taken) .same-length
 
 returns-3 : tie.Need-returns-3 Inv-loop μ-loop
-returns-3 c =
-    rw (c .refused3 .ensures) (ends-refused (spot (c .before .before .before) .going) (gives (c .before .before)) (c .before .if2 .taken) .leaves)
-
-add-at : tie.Need-add-at Inv-loop μ-loop
-add-at c = omega (arith, place (gives (c .before) .stepped) .within)
-
-add-record : tie.Need-add-record Inv-loop μ-loop
-add-record c =
-    let g = spot (c .before .before) .going in
-    omega (arith, g .few, g .within)
-
-loop-less : tie.Need-loop-less Inv-loop μ-loop
-loop-less c =
-    let p = place (gives (c .before) .stepped) in
-    omega (arith, p .onward, p .within)
-
-loop-again : tie.Need-loop-again Inv-loop μ-loop
-loop-again c = goes-on (spot (c .before .before) .going) (gives (c .before)) (c .if2 .left)
-
-refused-requires-4 : tie.Need-refused-requires-4 Inv-loop μ-loop
-refused-requires-4 c κs = search needs
-
-same-length-4 : tie.Need-same-length-4 Inv-loop μ-loop
-same-length-4 c = ends-late (c .before .before .before .loop .inv) (c .before .before .loop-test .left) (c .before .if3 .taken) .same-length
-
-returns-4 : tie.Need-returns-4 Inv-loop μ-loop
-returns-4 c = rw (c .refused4 .ensures) (ends-late (c .before .before .before .loop .inv) (c .before .before .loop-test .left) (c .before .if3 .taken) .leaves)
+returns-3 c = rw (c .refused3 .ensures) (ends-late (c .before .before .before .before .loop .inv) (c .before .before .if1 .left) (c .before .if3 .taken) .leaves)
 
 accepted-requires : tie.Need-accepted-requires Inv-loop μ-loop
 accepted-requires c κs = search needs
 
-same-length-5 : tie.Need-same-length-5 Inv-loop μ-loop
-same-length-5 c = ends-whole (c .before .before .before .loop .inv) (c .before .before .loop-test .left) (c .before .if3 .left) .same-length
+same-length-4 : tie.Need-same-length-4 Inv-loop μ-loop
+same-length-4 c = ends-whole (c .before .before .before .before .loop .inv) (c .before .before .if1 .left) (c .before .if3 .left) .same-length
 
-returns-5 : tie.Need-returns-5 Inv-loop μ-loop
-returns-5 c =
-    rw (c .accepted .ensures)
-    (ends-whole (c .before .before .before .loop .inv) (c .before .before .loop-test .left) (c .before .if3 .left) .leaves)
+returns-4 : tie.Need-returns-4 Inv-loop μ-loop
+returns-4 c = rw (c .accepted .ensures) (ends-whole (c .before .before .before .before .loop .inv) (c .before .before .if1 .left) (c .before .if3 .left) .leaves)
 
 pub pass-spec : {M : Type 1} → statement M
 pass-spec =
@@ -198,7 +133,7 @@ pass-spec =
     (tie.spec
     Inv-loop
     μ-loop
-    open-requires
+    no-frame-requires
     loop-holds
     read-at-requires
     enum-known-read
@@ -207,31 +142,17 @@ pass-spec =
     refused-requires
     same-length
     returns
-    misplaced-requires
+    serve-requires
     refused-requires-2
     same-length-2
     returns-2
-    enum-known-item
-    open-requires-2
-    enum-known-item-2
-    enter-sound-requires
-    enum-known-item-3
-    turn-sound-requires
-    refusal-of-requires
-    note-requires
-    enum-known-item-4
-    close-refusal-requires
-    enum-told-2
-    refused-requires-3
-    same-length-3
-    returns-3
     add-at
     add-record
     loop-less
     loop-again
-    refused-requires-4
-    same-length-4
-    returns-4
+    refused-requires-3
+    same-length-3
+    returns-3
     accepted-requires
-    same-length-5
-    returns-5)
+    same-length-4
+    returns-4)

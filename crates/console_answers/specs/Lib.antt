@@ -1,0 +1,2 @@
+-- What the console answers. Definitions only. Assumes nothing.
+pub mod Answers

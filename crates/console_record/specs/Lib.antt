@@ -1,0 +1,2 @@
+-- A record as text. Definitions only. Assumes nothing.
+pub mod Record

@@ -1,0 +1,3 @@
+pub mod Permutations
+mod Behind
+pub mod Sheet

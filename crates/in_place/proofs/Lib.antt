@@ -1,0 +1,3 @@
+pub mod Seats
+mod Table
+pub mod Steps

@@ -1,0 +1,4 @@
+pub mod Seats
+pub mod Table
+pub mod Held
+pub mod Steps

@@ -1,0 +1,16 @@
+-- `network::past` meets its contract. Assumes nothing.
+use borrow.Author.Needs.{needs}
+use Rattle.network.proofs.past.Statement.{statement}
+use Rattle.network.proofs.past.Tie as tie
+
+add-result : tie.Need-add-result
+add-result c = search needs
+
+returns : tie.Need-returns
+returns c = rw (c .if1 .taken)
+
+returns-2 : tie.Need-returns-2
+returns-2 c = rw (c .if1 .left)
+
+pub past-spec : {M : Type 1} → statement M
+past-spec = tie.close (tie.spec add-result returns returns-2)

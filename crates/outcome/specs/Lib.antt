@@ -1,0 +1,6 @@
+pub mod Course
+pub mod Step
+pub mod Schedule
+pub mod Whole
+pub mod Room
+pub mod Case

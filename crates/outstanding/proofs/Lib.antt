@@ -1,0 +1,2 @@
+pub mod Outstanding
+mod Cases

@@ -1,0 +1,2 @@
+pub mod Outstanding
+pub mod Cases

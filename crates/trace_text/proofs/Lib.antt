@@ -1,0 +1,3 @@
+mod Lines
+pub mod Whole
+mod Cases
