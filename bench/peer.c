@@ -228,19 +228,22 @@ static u16 get16(const u8 *b) { return b[0] | b[1] << 8; }
 static u32 get32(const u8 *b) { return get16(b) | (u32)get16(b + 2) << 16; }
 static void put32(u8 *b, u32 v) { put16(b, v & 65535); put16(b + 2, v >> 16); }
 
-typedef struct { u8 refusal; u16 kind, a, b; u32 n; u64 length; } Record;
+typedef struct { u8 refusal; u16 kind, a, b; u32 n; u64 length, present; } Record;
 static const u8 LENGTH[6] = {0, 8, 8, 6, 8, 12};
 
 static Record record_in(const u8 *s, u64 n, int reports) {
-    Record r = {11, 0, 0, 0, 0, 0};
+    Record r = {11, 0, 0, 0, 0, 0, n};
     if (n < 4) return r;
+    r.present = 0;
     u16 kind = get16(s + 2);
     r.refusal = 13;
     if (kind < 1 || kind > (reports ? 5 : 4)) return r;
     r.refusal = 12;
     if (get16(s) != LENGTH[kind]) return r;
-    r.refusal = 11;
+    r.refusal = 23;
+    r.present = n;
     if (n < LENGTH[kind]) return r;
+    r.present = 0;
     r.refusal = 0;
     r.kind = kind;
     r.length = LENGTH[kind];
