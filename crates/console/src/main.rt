@@ -116,24 +116,36 @@ fn work_out(call: usize, line: &[u8], text: &mut [u8]) -> usize {
 }
 
 // Answers a call that leaves the feed sheet as it is.
-fn answer_call(call: usize, line: &[u8], text: &mut [u8], sheet: &[u8], mut holding: Holding) -> Told
+fn answer_call(
+    call: usize,
+    line: &[u8],
+    text: &mut [u8],
+    sheet: &[u8],
+    mut holding: Holding,
+) -> Told
     ensures { λ r. ⌜ r .holding .fed ≡ holding .fed ⌝ }
 {
     if call < 4 {
-        let answered = on_run(call, line, text, holding.run);
-        holding.run = answered.run;
+        let run = holding.run;
+        let answered = on_run(call, line, text, run);
+        let run = answered.run;
+        holding.run = run;
         let end = answered.end;
         return Told { holding, end };
     }
     if call < 8 {
-        let answered = on_feed(call, line, text, holding.feed, sheet);
-        holding.feed = answered.run;
+        let feed = holding.feed;
+        let answered = on_feed(call, line, text, feed, sheet);
+        let feed = answered.run;
+        holding.feed = feed;
         let end = answered.end;
         return Told { holding, end };
     }
     if call < 13 {
-        let answered = on_small(call, line, text, holding.small);
-        holding.small = answered.cabinet;
+        let cabinet = holding.small;
+        let answered = on_small(call, line, text, cabinet);
+        let cabinet = answered.cabinet;
+        holding.small = cabinet;
         let end = answered.end;
         return Told { holding, end };
     }

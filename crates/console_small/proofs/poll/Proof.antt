@@ -1,0 +1,38 @@
+-- `console_small::poll` meets its contract. Assumes nothing.
+use Rattle.console_small.proofs.Calls.{poll-answered}
+use borrow.Author.Needs.{needs}
+use Rattle.console_small.proofs.poll.Statement.{statement}
+use Rattle.console_small.proofs.poll.Tie as tie
+
+short-requires : tie.Need-short-requires
+short-requires c κs = search needs
+
+poll-requires : tie.Need-poll-requires
+poll-requires c κs = search needs
+
+cast-t10 : tie.Need-cast-t10
+cast-t10 c = search needs
+
+slice-aggregate-put-values : tie.Need-slice-aggregate-put-values
+slice-aggregate-put-values c = search needs
+
+put-values-requires : tie.Need-put-values-requires
+put-values-requires c κs = search needs
+
+same-length : tie.Need-same-length
+same-length c = search needs
+
+returns : tie.Need-returns
+returns c = poll-answered _ (c .before .before .before .before .before .before .poll .ensures) (c .before .before .before .before .before .before .before .short .ensures) (c .before .before .before .put-values .ensures)
+
+pub poll-spec : {M : Type 1} → statement M
+poll-spec =
+    tie.close
+    (tie.spec
+    short-requires
+    poll-requires
+    cast-t10
+    slice-aggregate-put-values
+    put-values-requires
+    same-length
+    returns)
