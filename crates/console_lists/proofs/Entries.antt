@@ -88,9 +88,9 @@ module _ {keyed : Bool} {index size at : ℕ} (rest : Bool) (key : IndexIs keyed
 pub number-test : {text part : List ℕ} {most : ℕ} {ok : Bool} {value : ℕ} → text ≡ part → NumberIs text most ok value → ok ≡ isNumber part most
 number-test same read = rw same at (read .is-one)
 
-pub three-test : {text : List ℕ} {n a b c : ℕ} {first second third : Bool} → PartsCounted 47 text n → first ≡ isNumber (partAt 47 text 0) a → second ≡ isNumber (partAt 47 text 1) b → third ≡ isNumber (partAt 47 text 2) c → eqb n 3 && first && second && third ≡ areThree a b c text
+pub three-test : (a b c : ℕ) {text : List ℕ} {n : ℕ} {first second third : Bool} → PartsCounted 47 text n → first ≡ isNumber (partAt 47 text 0) a → second ≡ isNumber (partAt 47 text 1) b → third ≡ isNumber (partAt 47 text 2) c → eqb n 3 && first && second && third ≡ areThree a b c text
 unfolding areThree
-three-test counted first second third = rw (counted .whole, first, second, third)
+three-test a b c counted first second third = rw (counted .whole, first, second, third)
 
 -- digits hold no `=`
 no-mark : (text : List ℕ) → allBelow 10 text ≡ true → indexOf 61 text ≡ length text

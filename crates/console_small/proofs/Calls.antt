@@ -15,7 +15,7 @@ use Rattle.small.specs.Small.{openSmall, enterSmall, turnSmall, pollSmall}
 use Rattle.console_lines.specs.Words.{WordIs, wordAt, shortAt}
 use Rattle.console_answers.specs.Answers.{refusalLine, valuesLine}
 use Rattle.console_run.specs.Calls.{Answers, movedLine}
-use Rattle.console_small.specs.Lists.{sumsIn}
+use Rattle.console_small.specs.Named.{sumsIn}
 use Rattle.console_small.specs.Calls.{afterOpen, openLine, afterEnter, enterLine, afterTurn, turnLine, afterPoll, pollLine, topLine, highestLine}
 
 module _ {line before after : List ℕ} {end : ℕ} where

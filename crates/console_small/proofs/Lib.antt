@@ -1,2 +1,2 @@
 mod Calls
-mod Lists
+mod Named

@@ -12,7 +12,7 @@ use Rattle.small.specs.Small.{openSmall, enterSmall, turnSmall, pollSmall}
 use Rattle.console_lines.specs.Words.{wordAt, shortAt}
 use Rattle.console_answers.specs.Answers.{refusalLine, valuesLine}
 use Rattle.console_run.specs.Calls.{movedLine, SetIs}
-use Rattle.console_small.specs.Lists.{dialsIn, sumsIn}
+use Rattle.console_small.specs.Named.{dialsIn, sumsIn}
 
 -- `dopen W C`
 abbrev pub afterOpen : List ℕ → Cabinet

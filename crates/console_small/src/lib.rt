@@ -6,7 +6,7 @@ ghost use Rattle.console_small.specs.Record.{smallLine};
 ghost use Rattle.console_small.specs.Calls.{SmallSetIs, afterOpen, openLine, afterEnter, enterLine, afterTurn, turnLine, afterPoll, pollLine, topLine, highestLine};
 
 mod lists;
-mod record;
+mod readings;
 
 use console_lines::words;
 use dials::Top;
@@ -81,7 +81,7 @@ pub fn record(text: &mut [u8], cabinet: Cabinet) -> usize
     let board = run.board;
     let first = console_record::put_parts(text, run.width, run.construction, board);
     let second = text::put_byte(text, first, b' ');
-    let third = record::put_dials(text, second, dials);
+    let third = readings::put_dials(text, second, dials);
     text::put_byte(text, third, b'\n')
 }
 

@@ -1,7 +1,7 @@
 // What the lists of a line on the small cabinet name: its dials, `i=NOW/LAST/SUM,..`, and sums of yields, `i=n,..`; an exit that is
 // not named has 0. Who calls has seen that the text is such a list (`console_lists::is_list`).
 ghost use mathlib.Core.Path.{_≡_};
-ghost use Rattle.console_small.specs.Lists.{dialIn, dialStored, dialsIn, sumStored, sumsIn};
+ghost use Rattle.console_small.specs.Named.{dialIn, dialStored, dialsIn, sumStored, sumsIn};
 use console_lines::numbers;
 use console_lines::parts;
 use dials::Dial;
@@ -41,7 +41,8 @@ pub fn dials_in(text: &[u8]) -> [Dial; 64]
     let count = parts::count(text, b',');
     let mut k = 0;
     while k < count {
-        dials = dial_stored(parts::part(text, b',', k), dials);
+        let after = dial_stored(parts::part(text, b',', k), dials);
+        dials = after;
         k += 1;
     }
     dials
@@ -67,7 +68,8 @@ pub fn sums_in(text: &[u8]) -> [u32; 64]
     let count = parts::count(text, b',');
     let mut k = 0;
     while k < count {
-        sums = sum_stored(parts::part(text, b',', k), sums);
+        let after = sum_stored(parts::part(text, b',', k), sums);
+        sums = after;
         k += 1;
     }
     sums

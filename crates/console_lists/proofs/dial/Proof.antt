@@ -31,7 +31,7 @@ refused-requires-2 c κs = search needs
 returns-2 : tie.Need-returns-2
 unfolding isDial
 returns-2 c =
-    let at-rest = c .before .before .before .before in
+    let at-rest = c .before .before .before in
     let test = rw (at-rest .before .part .ensures) at (at-rest .is-reading .ensures) in
     no-rest _ (at-rest .before .before .key .ensures) (c .refused2 .ensures) (sym test ∙ not-true _ (c .before .if2 .taken))
 
@@ -41,9 +41,9 @@ add-next c = search needs
 returns-3 : tie.Need-returns-3
 unfolding isDial
 returns-3 c =
-    let at-rest = c .before .before .before .before in
+    let at-rest = c .before .before in
     let test = rw (at-rest .before .part .ensures) at (at-rest .is-reading .ensures) in
-    key-rest _ (at-rest .before .before .key .ensures) (c .before .before .before .if1 .left) (sym test ∙ not-false _ (c .before .if2 .left)) refl
+    key-rest _ (at-rest .before .before .key .ensures) (c .before .if1 .left) (sym test ∙ not-false _ (c .if2 .left)) refl
 
 pub dial-spec : {M : Type 1} → statement M
 dial-spec =

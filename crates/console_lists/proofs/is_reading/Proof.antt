@@ -31,6 +31,9 @@ returns c =
     let at-last = at-sum .before .before in
     let at-now = at-last .before .before in
     three-test
+    65535
+    65535
+    4294967295
     (c .count .ensures)
     (rw (at-now .before .part .ensures) at (at-now .is-decimal .ensures))
     (rw (at-last .before .part2 .ensures) at (at-last .is-decimal2 .ensures))

@@ -38,6 +38,9 @@ returns c =
     let at-level = at-wire .before .before in
     let at-inside = at-level .before .before in
     three-test
+    1
+    65535
+    65535
     (at-count .count .ensures)
     (number-test (at-inside .before .part .ensures) (at-inside .decimal .ensures))
     (number-test (at-level .before .part2 .ensures) (at-level .decimal2 .ensures))

@@ -23,7 +23,7 @@ same-length : tie.Need-same-length
 same-length c = search needs
 
 returns : tie.Need-returns
-returns c = highest-answered (c .before .before .before .before .before .before .word .ensures) (c .before .before .before .before .before .sums-in .ensures) (c .before .before .before .before .short .ensures) (c .before .before .before .highest .ensures) (c .before .before .put-top .ensures)
+returns c = highest-answered (c .before .before .before .before .before .before .before .word .ensures) (c .before .before .before .before .before .before .sums-in .ensures) (c .before .before .before .before .before .short .ensures) (c .before .before .before .before .highest .ensures) (c .before .before .put-top .ensures)
 
 pub highest-spec : {M : Type 1} → statement M
 highest-spec =

@@ -10,8 +10,8 @@ short-requires c κs = search needs
 poll-requires : tie.Need-poll-requires
 poll-requires c κs = search needs
 
-cast-t10 : tie.Need-cast-t10
-cast-t10 c = search needs
+cast-t9 : tie.Need-cast-t9
+cast-t9 c = search needs
 
 slice-aggregate-put-values : tie.Need-slice-aggregate-put-values
 slice-aggregate-put-values c = search needs
@@ -23,7 +23,7 @@ same-length : tie.Need-same-length
 same-length c = search needs
 
 returns : tie.Need-returns
-returns c = poll-answered _ (c .before .before .before .before .before .before .poll .ensures) (c .before .before .before .before .before .before .before .short .ensures) (c .before .before .before .put-values .ensures)
+returns c = poll-answered _ (c .before .before .before .before .before .before .before .poll .ensures) (c .before .before .before .before .before .before .before .before .short .ensures) (c .before .before .before .put-values .ensures)
 
 pub poll-spec : {M : Type 1} → statement M
 poll-spec =
@@ -31,7 +31,7 @@ poll-spec =
     (tie.spec
     short-requires
     poll-requires
-    cast-t10
+    cast-t9
     slice-aggregate-put-values
     put-values-requires
     same-length

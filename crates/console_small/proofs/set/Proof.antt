@@ -16,7 +16,7 @@ same-length : tie.Need-same-length
 same-length c = search needs
 
 returns : tie.Need-returns
-returns c = record { run-set = c .before .before .before .before .set .ensures; dials-are = rw (c .before .before .before .word .ensures) at (c .before .before .dials-in .ensures) }
+returns c = record { run-set = c .before .before .before .before .before .set .ensures; dials-are = rw (c .before .before .word .ensures) at (c .before .dials-in .ensures) }
 
 pub set-spec : {M : Type 1} → statement M
 set-spec =

@@ -1,5 +1,5 @@
 -- `console_small::lists::dial` meets its contract: each number is its part. Assumes nothing.
-use Rattle.console_small.specs.Lists.{dialIn}
+use Rattle.console_small.specs.Named.{dialIn}
 use borrow.Author.Needs.{needs}
 use Rattle.console_small.proofs.lists.dial.Statement.{statement}
 use Rattle.console_small.proofs.lists.dial.Tie as tie
@@ -22,14 +22,14 @@ part-requires-3 c κs = search needs
 decimal-requires-3 : tie.Need-decimal-requires-3
 decimal-requires-3 c κs = search needs
 
-cast-t14 : tie.Need-cast-t14
-cast-t14 c = search needs
+cast-t8 : tie.Need-cast-t8
+cast-t8 c = search needs
 
-cast-t15 : tie.Need-cast-t15
-cast-t15 c = search needs
+cast-t9 : tie.Need-cast-t9
+cast-t9 c = search needs
 
-cast-t16 : tie.Need-cast-t16
-cast-t16 c = search needs
+cast-t10 : tie.Need-cast-t10
+cast-t10 c = search needs
 
 returns : tie.Need-returns
 unfolding dialIn
@@ -49,7 +49,7 @@ dial-spec =
     decimal-requires-2
     part-requires-3
     decimal-requires-3
-    cast-t14
-    cast-t15
-    cast-t16
+    cast-t8
+    cast-t9
+    cast-t10
     returns)

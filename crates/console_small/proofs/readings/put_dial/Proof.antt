@@ -1,9 +1,9 @@
--- `console_small::record::put_dial` meets its contract: by whether the dial differs from an opening's. Assumes nothing.
+-- `console_small::readings::put_dial` meets its contract: by whether the dial differs from an opening's. Assumes nothing.
 use mathlib.Core.Path.{sym, _∙_}
 use Rattle.text.proofs.Lists.{entry-none, entry-one}
 use borrow.Author.Needs.{needs}
-use Rattle.console_small.proofs.record.put_dial.Statement.{statement}
-use Rattle.console_small.proofs.record.put_dial.Tie as tie
+use Rattle.console_small.proofs.readings.put_dial.Statement.{statement}
+use Rattle.console_small.proofs.readings.put_dial.Tie as tie
 
 has-read-requires : tie.Need-has-read-requires
 has-read-requires c κs = search needs

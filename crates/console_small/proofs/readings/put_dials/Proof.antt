@@ -1,4 +1,4 @@
--- `console_small::record::put_dials` meets its contract. The loop's invariant: the entries of the exits left, put where the text has got to, give the
+-- `console_small::readings::put_dials` meets its contract. The loop's invariant: the entries of the exits left, put where the text has got to, give the
 -- whole list. The measure is the exits left. Assumes nothing.
 use Prim.Native.Nat.{_-_}
 use mathlib.Core.Path.{_≡_}
@@ -7,8 +7,8 @@ use Rattle.dials.specs.Dials.{openDial}
 use Rattle.text.proofs.Lists.{Members, members-none, member-on, members-all}
 use Rattle.console_small.specs.Record.{hasRead, dialEntry, dialList}
 use borrow.Author.Needs.{needs}
-use Rattle.console_small.proofs.record.put_dials.Statement.{statement}
-use Rattle.console_small.proofs.record.put_dials.Tie as tie
+use Rattle.console_small.proofs.readings.put_dials.Statement.{statement}
+use Rattle.console_small.proofs.readings.put_dials.Tie as tie
 
 abbrev Inv-loop : tie.InvT-loop
 Inv-loop out₀ at dials next₀ some₀ i₀ out next some i = Members hasRead dialEntry dials at out₀ next some i out

@@ -1,10 +1,10 @@
--- `console_small::record::put_reading` meets its contract: one number behind another. Assumes nothing.
+-- `console_small::readings::put_reading` meets its contract: one number behind another. Assumes nothing.
 use Rattle.text.specs.Text.{letters}
 use Rattle.text.proofs.Text.{puts-then}
 use Rattle.console_small.specs.Record.{dialEntry}
 use borrow.Author.Needs.{needs}
-use Rattle.console_small.proofs.record.put_reading.Statement.{statement}
-use Rattle.console_small.proofs.record.put_reading.Tie as tie
+use Rattle.console_small.proofs.readings.put_reading.Statement.{statement}
+use Rattle.console_small.proofs.readings.put_reading.Tie as tie
 
 put-number-requires : tie.Need-put-number-requires
 put-number-requires c κs = search needs
