@@ -1,5 +1,9 @@
 -- `console_small::poll` meets its contract. Assumes nothing.
-use Rattle.console_small.proofs.Calls.{poll-answered}
+use Rattle.small.specs.declared.Polled.{Polled}
+use Rattle.small.specs.Small.{pollSmall}
+use Rattle.console_answers.specs.Answers.{valuesLine}
+use Rattle.console_run.proofs.Calls.{answered-1}
+use mathlib.Core.List.{[], _∷_}
 use borrow.Author.Needs.{needs}
 use Rattle.console_small.proofs.poll.Statement.{statement}
 use Rattle.console_small.proofs.poll.Tie as tie
@@ -23,7 +27,7 @@ same-length : tie.Need-same-length
 same-length c = search needs
 
 returns : tie.Need-returns
-returns c = poll-answered _ (c .before .before .before .before .before .before .before .poll .ensures) (c .before .before .before .before .before .before .before .before .short .ensures) (c .before .before .before .put-values .ensures)
+returns c = answered-1 (λ (x : Polled). x .cabinet) (λ (x : Polled). valuesLine (x .refusal) (x .yielded ∷ [])) (pollSmall _) (c .before .before .before .before .before .before .before .poll .ensures) (c .before .before .before .before .before .before .before .before .short .ensures) (c .before .before .before .put-values .ensures)
 
 pub poll-spec : {M : Type 1} → statement M
 poll-spec =
