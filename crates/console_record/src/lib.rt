@@ -1,5 +1,6 @@
 // A record as text, put into a lent text: `W C ENTERED COUNTS TOGGLES PLACES` of a run record, and with the depth in place of the
-// construction that of a run over a feed sheet. Of its lists, only what differs from an opening.
+// construction that of a run over a feed sheet; that of a small cabinet goes on with its dials. Of its lists, only what differs from an
+// opening.
 ghost use mathlib.Core.Path.{_≡_};
 ghost use Rattle.text.specs.Text.{Puts};
 ghost use Rattle.text.specs.Lists.{entryIf};
