@@ -228,19 +228,22 @@ static u16 get16(const u8 *b) { return b[0] | b[1] << 8; }
 static u32 get32(const u8 *b) { return get16(b) | (u32)get16(b + 2) << 16; }
 static void put32(u8 *b, u32 v) { put16(b, v & 65535); put16(b + 2, v >> 16); }
 
-typedef struct { u8 refusal; u16 kind, a, b; u32 n; u64 length; } Record;
+typedef struct { u8 refusal; u16 kind, a, b; u32 n; u64 length, present; } Record;
 static const u8 LENGTH[6] = {0, 8, 8, 6, 8, 12};
 
 static Record record_in(const u8 *s, u64 n, int reports) {
-    Record r = {11, 0, 0, 0, 0, 0};
+    Record r = {11, 0, 0, 0, 0, 0, n};
     if (n < 4) return r;
+    r.present = 0;
     u16 kind = get16(s + 2);
     r.refusal = 13;
     if (kind < 1 || kind > (reports ? 5 : 4)) return r;
     r.refusal = 12;
     if (get16(s) != LENGTH[kind]) return r;
-    r.refusal = 11;
+    r.refusal = 23;
+    r.present = n;
     if (n < LENGTH[kind]) return r;
+    r.present = 0;
     r.refusal = 0;
     r.kind = kind;
     r.length = LENGTH[kind];
@@ -359,9 +362,12 @@ __attribute__((noinline)) static u64 list_pointer(const u8 *s, u64 n, u8 *out, u
 }
 
 /* ---- designs: read once into a grid of 37 rows of 64 bytes; what does not fit is left out */
-typedef struct { u8 refusal; u64 offset, width, depth; } Made;
+typedef struct { u8 refusal; u64 offset, present, width, depth; } Made;
 
-static Made made(u8 number, u64 at, u64 width, u64 depth) { return (Made){number, at, number ? 0 : width, number ? 0 : depth}; }
+static Made made(u8 number, u64 at, u64 width, u64 depth) { return (Made){number, at, 0, number ? 0 : width, number ? 0 : depth}; }
+
+/* refused by its head, with n bytes up to its parent's end */
+static Made refused_head(u8 number, u64 at, u64 n) { return (Made){number, at, number == 11 || number == 23 ? n : 0, 0, 0}; }
 static int in_limits(u64 w, u64 d) { return w >= 1 && w <= 64 && d <= 36; }
 static int fits(u64 row, u64 col, u64 w) { return w <= 64 && row <= 36 && col <= 64 - w; }
 
@@ -391,10 +397,10 @@ static u8 head_refusal(const u8 *s, u64 n, int left, int outermost) {
     u16 size = get16(s), kind = get16(s + 2);
     if (kind < 16 || kind > 20) return 13;
     if (kind == 20 && size < 5) return 12;
-    if (kind == 20 && n < 5) return 11;
+    if (kind == 20 && n < 5) return 23;
     if (kind == 18 ? size != 4 : kind == 19 ? size != 8 : kind == 20 ? size != 5 + s[4] : size < 4) return 12;
     if (outermost && size < n) return 12;
-    if (n < size) return 11;
+    if (n < size) return 23;
     if (!left) return 18;
     return kind <= 17 && size == 4 ? 19 : 0;
 }
@@ -444,7 +450,7 @@ static Made series(const u8 *s, u64 n, int left, u64 at, u8 *grid, u64 row_, u64
     int equal = 1;
     for (u64 i = 0; i < n; i += get16(s + i)) {
         u8 exits[64] = {0}, number = head_refusal(s + i, n - i, left, 0);
-        if (number) return made(number, at + 4 + i, 0, 0);
+        if (number) return refused_head(number, at + 4 + i, n - i);
         if (row_ + d <= 36) memcpy(exits, grid + 64 * (row_ + d), 64);
         Made p = record_read(s + i, left - 1, at + 4 + i, grid, row_ + d, col);
         if (p.refusal) return p;
@@ -462,7 +468,7 @@ static Made beside(const u8 *s, u64 n, int left, u64 at, u8 *grid, u64 row_, u64
     int equal = 1;
     for (u64 i = 0; i < n; i += get16(s + i)) {
         u8 number = head_refusal(s + i, n - i, left, 0);
-        if (number) return made(number, at + 4 + i, 0, 0);
+        if (number) return refused_head(number, at + 4 + i, n - i);
         Made p = record_read(s + i, left - 1, at + 4 + i, grid, row_, col + w);
         if (p.refusal) return p;
         if (i) equal &= p.depth == d;

@@ -3,10 +3,11 @@
     facts      the paper's small facts, over the independent program itself
     sheets     all sheets, from the text in a file (--text) or printed by a program (--program)
     listing    the listing program on seeded schedule files, whole and damaged; of bin/listing
-               the exit statuses too
+               the exit statuses too, and what it says of a cut file
     trace      the trace program on the same files, of bin/trace the exit statuses too
     console    the console program on seeded lines, given to one program
-    promises   the promises by random play, over the independent program itself
+    promises   the promises by random play and by schedules cut at every byte, over the
+               independent program itself
     panels     the console program on seeded lines about designs and runs over feed sheets
     panel_text the panel program on seeded design files, whole and damaged
     feeds      what holds of every feed sheet by random play, over the independent program itself
@@ -26,6 +27,7 @@ if not __package__:
     __package__ = "independent"
 
 from . import comparisons, makers, panel_comparisons
+from .cuts import check_cuts
 from .differences import Difference
 from .facts import check_facts
 from .feed_promises import check_feed_promises
@@ -74,7 +76,7 @@ def compare(given):
     if given.what == "facts":
         return f"{check_facts()}; {check_makers()}; {check_panel_facts()}; {check_small_facts()}"
     if given.what == "promises":
-        return check_promises(given.seed, size)
+        return f"{check_promises(given.seed, size)}; {check_cuts(given.seed)}"
     if given.what == "feeds":
         return check_feed_promises(given.seed, size)
     if given.what == "polls":
@@ -99,6 +101,7 @@ def compare(given):
         ours = given.program is None  # another program's exit status is its own affair
         if ours:
             comparisons.check_unreadable(given.what, program.command)
+            comparisons.check_cut_case(given.what, program)
         files = FILES[given.what](given.seed, size)
         return comparisons.compare_listing(program, files, ours, given.what)
     return comparisons.compare_console(program, makers.console_lines(given.seed, size))

@@ -8,7 +8,9 @@ import subprocess
 from collections import Counter
 
 from .console import Console
+from .cuts import told
 from .differences import Difference, first_unequal, short, shrink
+from .file_makers import CASE
 from .listing import listing
 from .play import lines_of
 from .sheet_lines import sheet_lines
@@ -28,10 +30,12 @@ class Program:
     def __init__(self, command):
         self.command = command
         self.status = None
+        self.quiet = False
 
     def __call__(self, data):
         try:
             done = subprocess.run(self.command, input=data, stdout=subprocess.PIPE,
+                                  stderr=subprocess.DEVNULL if self.quiet else None,
                                   timeout=LIMIT_SECONDS, check=False)
         except subprocess.TimeoutExpired:
             raise Difference(f"{self.command[0]}: no end after {LIMIT_SECONDS} seconds") from None
@@ -85,6 +89,28 @@ def check_unreadable(what, command):
         if found != (2, b"", 1):
             raise unlike(f"{what}: {path}: status, output and lines of error differ",
                          str((2, b"", 1)), str(found))
+
+
+def check_cut_case(what, program):
+    """The paper's case cut at every byte: the line, the exit status, and what is said of the cut.
+
+    After this the program's standard error is no longer shown; what the first
+    call says there, of a program that is not built yet, is.
+    """
+    program(b"")
+    program.quiet = True
+    data = b"".join(CASE)
+    for end in range(len(data)):
+        number, record, offset, there = told(CASE, end)
+        said = f"{what}: bytes of record {record} that are there: {there}" if there else ""
+        expected = (1, f"refused {number} {record} {offset}\n", said)
+        done = subprocess.run(program.command, input=data[:end], capture_output=True,
+                              timeout=LIMIT_SECONDS, check=False)
+        lines = [line for line in lines_of(done.stderr) if line.startswith(f"{what}: ")]
+        found = (done.returncode, done.stdout.decode("latin-1"), "\n".join(lines))
+        if found != expected:
+            raise unlike(f"{what}: the first {end} bytes of the paper's case: "
+                         "status, output and error differ", str(expected), str(found))
 
 
 def listing_difference(program, what, where, parts):

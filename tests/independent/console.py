@@ -83,14 +83,14 @@ class Console(feed_calls.FeedCalls, small_calls.SmallCalls):
         """`read HEX`"""
         refusal, kind, length, fields = records.read_record(data)
         if refusal:
-            return str(refusal)
+            return f"{refusal} {records.present(refusal, data)}"
         return " ".join(str(part) for part in (0, kind, length, *fields))
 
     def run_schedule(self, room, data):
         """`run ROOM HEX`: the record that the console holds has no part in it."""
         lent = untouched(room)
         outcome = schedule.run_schedule(data, lent)
-        return (f"{outcome.refusal} {outcome.record} {outcome.offset} "
+        return (f"{outcome.refusal} {outcome.record} {outcome.offset} {outcome.present} "
                 f"{outcome.filled} {hex_text(lent)}")
 
     def help(self):

@@ -6,8 +6,8 @@ in the order, and panels small enough to be drawn on a page.
 
 from .design_makers import Dress, beside, boxes, cell, cross, named, series
 from .designs import BESIDE, CELL, CROSS, SERIES
+from .records import CUT_BODY, CUT_HEAD
 
-CUT_HEAD, CUT_BODY = 11, 11
 UNKNOWN = Dress(21)
 EMPTY = series()
 SHORT_BOX = Dress(SERIES, length=3)

@@ -8,11 +8,10 @@ from dataclasses import dataclass
 
 from . import networks
 from .panels import Beside, Cell, Cross, Named, Series, feed_sheet
-from .records import little
+from .records import CUT_BODY, CUT_HEAD, little
 
 SERIES, BESIDE, CELL, NAMED, CROSS = 16, 17, 18, 19, 20
 KINDS = (SERIES, BESIDE, CELL, NAMED, CROSS)
-CUT_HEAD, CUT_BODY = 11, 11
 HEAD = 4
 NESTING = 8
 WIDEST = 64
@@ -20,11 +19,11 @@ DEEPEST = 36
 
 
 class Refused(Exception):
-    """A record of the design is refused: the number, and the record's offset."""
+    """A record of the design is refused: the number, its offset, and how many bytes of it are there."""
 
-    def __init__(self, number, offset):
-        super().__init__(number, offset)
-        self.number, self.offset = number, offset
+    def __init__(self, number, offset, present=0):
+        super().__init__(number, offset, present)
+        self.number, self.offset, self.present = number, offset, present
 
 
 @dataclass
@@ -33,6 +32,7 @@ class Outcome:
 
     refusal: int = 0
     offset: int = 0
+    present: int = 0
     width: int = 0
     depth: int = 0
     filled: int = 0
@@ -43,12 +43,12 @@ def read_panel(data, lent):
     try:
         tree = read_design(data)
     except Refused as refused:
-        return Outcome(refused.number, refused.offset)
+        return Outcome(refused.number, refused.offset, refused.present)
     sheet = feed_sheet(tree)
     if len(lent) < len(sheet):
         return Outcome(refusal=3)
     lent[:len(sheet)] = sheet
-    return Outcome(0, 0, tree.width, tree.depth, len(sheet))
+    return Outcome(0, 0, 0, tree.width, tree.depth, len(sheet))
 
 
 def read_design(data):
@@ -60,7 +60,7 @@ def read_design(data):
 def read_part(data, at, end, nesting):
     """The record at the offset, inside a parent that ends at `end`: its tree, and where it ends.
 
-    Judged by 11 (head), 13, 12, 11 (body), 18, 19, then its members from the
+    Judged by 11 (head), 13, 12, 23 (body), 18, 19, then its members from the
     left, then 1, 2, 21, 20, 22. The outermost record has nesting 1.
     """
     kind, length = judge_dress(data, at, end, nesting)
@@ -74,12 +74,13 @@ def read_part(data, at, end, nesting):
 
 
 def judge_dress(data, at, end, nesting):
-    """The record's kind and length: 11 (head), 13, 12, 11 (body), 18.
+    """The record's kind and length: 11 (head), 13, 12, 23 (body), 18.
 
-    A member's end is its parent's; bytes after the outermost record are its 12.
+    A member's end is its parent's, and the bytes of a cut one are counted up to
+    there; bytes after the outermost record are its 12.
     """
     if end - at < HEAD:
-        raise Refused(CUT_HEAD, at)
+        raise Refused(CUT_HEAD, at, end - at)
     length, kind = little(data[at:at + 2]), little(data[at + 2:at + 4])
     if kind not in KINDS:
         raise Refused(13, at)
@@ -87,14 +88,14 @@ def judge_dress(data, at, end, nesting):
     if nesting == 1 and at + length < end:
         raise Refused(12, at)
     if at + length > end:
-        raise Refused(CUT_BODY, at)
+        raise Refused(CUT_BODY, at, end - at)
     if nesting > NESTING:
         raise Refused(18, at)
     return kind, length
 
 
 def judge_length(data, at, end, kind, length):
-    """12 where the length is not that of the kind; a cross's width byte past the end is 11."""
+    """12 where the length is not that of the kind; a cross's width byte past the end is 23."""
     if kind in (SERIES, BESIDE):
         if length < HEAD:
             raise Refused(12, at)
@@ -108,7 +109,7 @@ def judge_length(data, at, end, kind, length):
         if length < HEAD + 1:
             raise Refused(12, at)
         if end - at == HEAD:
-            raise Refused(CUT_BODY, at)
+            raise Refused(CUT_BODY, at, end - at)
         if length != HEAD + 1 + data[at + HEAD]:
             raise Refused(12, at)
 

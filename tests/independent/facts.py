@@ -59,6 +59,7 @@ def facts_of_schedules():
     must_equal("a byte after close", f"refused 14 8 {len(CASE)}\n", listing(CASE + b"\0"))
     must_equal("a wrong close and a byte", "refused 15 7 48\n",
                listing(CASE[:-4] + b"\3\0\0\0" + b"\0"))
+    must_equal("a body cut", "refused 23 2 16\n", listing(CASE[:21]))
     must_equal("length 65,535", "refused 12 1 8\n", listing(CASE[:8] + b"\xff\xff\x03\0"))
     must_equal("65,537 bytes", "refused 16 0 0\n", listing(bytes(65_537)))
     must_equal("no entries", "network 64 periodic\nrest 0\n",

@@ -21,8 +21,8 @@ class FeedCalls:
         """`panel ROOM HEX`: the whole lent buffer after the call."""
         lent = untouched(room)
         outcome = designs.read_panel(data, lent)
-        return (f"{outcome.refusal} {outcome.offset} {outcome.width} {outcome.depth} "
-                f"{outcome.filled} {hex_text(lent)}")
+        return (f"{outcome.refusal} {outcome.offset} {outcome.present} {outcome.width} "
+                f"{outcome.depth} {outcome.filled} {hex_text(lent)}")
 
     def feed(self, data):
         """`feed HEX`: the sheet that is lent from now on, good or not."""

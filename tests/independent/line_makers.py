@@ -4,11 +4,13 @@ from . import edges
 from .call_makers import (enter_line, gaps_line, read_line, run_line, sheet_line, spoiled,
                           turn_line, view_line, write_line)
 from .console import Console
+from .cuts import small
+from .file_makers import CASE
 from .fixed_lines import FIXED
 from .networks import BITONIC
 from .record_makers import UNSOUND, reached, sound_unreached
 from .schedule_makers import whole
-from .words import record_text
+from .words import hex_text, record_text
 
 
 class Lines:
@@ -31,6 +33,13 @@ class Lines:
         for line in (f"run 56160 {largest}", f"run 56159 {largest}", f"run 65536 {largest}00"):
             self.add(line)
         self.add("record")
+        self.cut(CASE)
+
+    def cut(self, records):
+        """A schedule that is accepted, cut at every byte."""
+        data = b"".join(records)
+        for end in range(len(data) + 1):
+            self.add(f"run 24 {hex_text(data[:end])}")
 
     def play(self):
         """Calls from an opening."""
@@ -83,4 +92,6 @@ def lines(rng, size):
         made.on_record(rng.choice(tuple(UNSOUND.values())))
         for _ in range(2):
             made.others()
+        if rng.random() < 0.25:
+            made.cut(small(rng))
     return made.made[:size]

@@ -11,15 +11,15 @@ from .record_makers import UNSOUND, reached, sound_unreached
 from .run import broken
 from .words import record_text
 
-OF_FILES = {1, 2, 4, 5, 6, 8, 11, 12, 13, 14, 15, 16}
+OF_FILES = {1, 2, 4, 5, 6, 8, 11, 12, 13, 14, 15, 16, 23}
 
 
 def refusals_met():
-    """Lines meet 1 to 17; files meet every refusal that a file can meet."""
+    """Lines meet 1 to 17 and 23; files meet every refusal that a file can meet."""
     met = Counter()
     for line, answer in console_lines(1, 3000):
         met.update(refusal_of(line, answer))
-    must_equal("refusals that lines meet", set(range(18)), set(met))
+    must_equal("refusals that lines meet", {*range(18), 23}, set(met))
     met = Counter(text.split()[1] for _, _, text in schedule_files(1, 300)
                   if text.startswith("refused"))
     must_equal("refusals that files meet", OF_FILES, {int(number) for number in met})

@@ -17,7 +17,7 @@ from .panel_listing import panel_listing
 from .panels import feed_sheet
 from .words import feed_text
 
-OF_DESIGNS = {1, 2, 11, 12, 13, 18, 19, 20, 21, 22}
+OF_DESIGNS = {1, 2, 11, 12, 13, 18, 19, 20, 21, 22, 23}
 OF_RUNS = {4, 5, 6, 7, 8, 9, 17}
 
 
@@ -44,6 +44,16 @@ def room():
         must_equal("room for a cell", (refusal, 0, lent),
                    (outcome.refusal, outcome.offset, bytes_lent.hex()))
     must_equal("room 0 and a fault", 19, read_panel(beside().data(), bytearray()).refusal)
+
+
+def cut_members():
+    """How much of a cut record is there is counted up to its parent's end."""
+    for data, told in (("", (11, 0, 0)), ("040012", (11, 0, 3)), ("06001400", (23, 0, 4)),
+                       ("0800100008001300", (23, 4, 4)), ("060010000400", (11, 4, 2)),
+                       ("1000100008001000080013000400" "1200", (23, 8, 4)),
+                       ("0600110000" "00", (11, 4, 2)), ("05001200", (12, 0, 0))):
+        found = read_panel(bytes.fromhex(data), bytearray())
+        must_equal(f"cut: {data}", told, (found.refusal, found.offset, found.present))
 
 
 def designs_made():
@@ -140,7 +150,7 @@ def gap_lists():
 
 def check_panel_facts():
     """All of them; in words, what was done."""
-    for check in (worked_cases, named_networks, room, designs_made, sheets_judged, does_not_count,
+    for check in (worked_cases, named_networks, room, cut_members, designs_made, sheets_judged, does_not_count,
                   exit_row, records_made, records_as_text, refusals_met, gap_lists):
         check()
     return f"{len(CASES)} designs worked out by hand and the facts of panels hold"

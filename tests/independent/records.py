@@ -14,6 +14,7 @@ FIELDS = {
     NUMBER: (2, 2, 4),
 }
 LENGTHS = {OPEN: 8, ENTER: 8, TURN: 6, CLOSE: 8, NUMBER: 12}
+CUT_HEAD, CUT_BODY = 11, 23
 
 
 def little(data):
@@ -24,23 +25,28 @@ def little(data):
 def read_record(data, known=tuple(LENGTHS)):
     """Read the record at the front of the bytes: (refusal, kind, length, fields).
 
-    Order: 11 for the head (no bytes counts here too), 13, 12, 11 for the body.
+    Order: 11 for the head (no bytes counts here too), 13, 12, 23 for the body.
     Bytes behind the record are not looked at.
     """
     if len(data) < 4:
-        return 11, 0, 0, ()
+        return CUT_HEAD, 0, 0, ()
     length, kind = little(data[0:2]), little(data[2:4])
     if kind not in known:
         return 13, 0, 0, ()
     if length != LENGTHS[kind]:
         return 12, 0, 0, ()
     if length > len(data):
-        return 11, 0, 0, ()
+        return CUT_BODY, 0, 0, ()
     fields, at = [], 4
     for size in FIELDS[kind]:
         fields.append(little(data[at:at + size]))
         at += size
     return 0, kind, length, tuple(fields)
+
+
+def present(refusal, data):
+    """How many bytes are there of the record at the front, its head too, where it is cut; else 0."""
+    return len(data) if refusal in (CUT_HEAD, CUT_BODY) else 0
 
 
 def record_bytes(kind, *fields):

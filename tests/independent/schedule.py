@@ -2,7 +2,7 @@
 
 from dataclasses import dataclass
 
-from .records import CLOSE, ENTER, NUMBER, OPEN, TURN, read_record, record_bytes
+from .records import CLOSE, ENTER, NUMBER, OPEN, TURN, present, read_record, record_bytes
 from .run import enter_sound, opening, turn_sound
 
 LARGEST = 65_536
@@ -16,6 +16,7 @@ class Outcome:
     refusal: int = 0
     record: int = 0
     offset: int = 0
+    present: int = 0
     width: int = 0
     construction: int = 0
     entries: int = 0
@@ -33,22 +34,23 @@ def run_schedule(data, lent):
     reports = bytearray()
     run, closed, record, offset = None, False, 0, 0
     while not (closed and offset == len(data)):
-        refusal, length, run, closed = step(data[offset:offset + 12], run, closed, reports)
+        rest = data[offset:offset + 12]
+        refusal, length, run, closed = step(rest, run, closed, reports)
         if refusal:
-            return Outcome(refusal, record, offset)
+            return Outcome(refusal, record, offset, present(refusal, rest))
         record += 1
         offset += length
     if len(reports) > len(lent):
         return Outcome(refusal=17)
     lent[:len(reports)] = reports
-    return Outcome(0, 0, 0, run.width, run.construction, run.entered, len(reports))
+    return Outcome(0, 0, 0, 0, run.width, run.construction, run.entered, len(reports))
 
 
 def step(rest, run, closed, reports):
     """Serve the record at the front of the rest: (refusal, length, run, closed).
 
     The order: 14 if no bytes are left before close (and for any byte after it),
-    11 for the head, 13, 12, 11 for the body, 14, the call's own order, 15. No
+    11 for the head, 13, 12, 23 for the body, 14, the call's own order, 15. No
     record is longer than 12 bytes, so that much of the rest is enough.
     """
     if closed or not rest:

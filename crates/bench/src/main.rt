@@ -225,6 +225,7 @@ fn bytes_in(outcome: Outcome) -> u64 {
             number: _,
             record: _,
             offset: _,
+            present: _,
         } => 0,
     }
 }

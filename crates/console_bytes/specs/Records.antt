@@ -14,7 +14,7 @@ use Rattle.records.specs.Reading.{readOf}
 use Rattle.outcome.specs.Whole.{Ran}
 use Rattle.console_lines.specs.Hex.{HexPut}
 use Rattle.console_lines.specs.Words.{wordAt, roomAt}
-use Rattle.console_answers.specs.Answers.{refusalLine, valuesLine, bytesLine}
+use Rattle.console_answers.specs.Answers.{valuesLine, bytesLine}
 use Rattle.console_bytes.specs.Lent.{lentBytes}
 
 -- a record that was read: kind, length, fields
@@ -25,10 +25,10 @@ shownOf size (Turn t) = 3 ∷ size ∷ t ∷ []
 shownOf size (Close e) = 4 ∷ size ∷ e ∷ []
 shownOf size (Number t v n) = 5 ∷ size ∷ t ∷ v ∷ n ∷ []
 
--- `0 KIND LENGTH FIELD ..`, or the refusal number
+-- `0 KIND LENGTH FIELD ..`, or `R PRESENT`
 unfoldable pub readLine : Read → List ℕ
 readLine (Got item size) = valuesLine 0 (shownOf size item)
-readLine (NotRead number) = refusalLine number
+readLine (NotRead number present) = valuesLine number (present ∷ [])
 
 -- `read HEX`: of the bytes that the word spells
 pub record ReadAnswered (line before : List ℕ) (end : ℕ) (after : List ℕ) : Type 0 where
@@ -37,10 +37,10 @@ pub record ReadAnswered (line before : List ℕ) (end : ℕ) (after : List ℕ) 
   pub spelt : HexPut (wordAt line 1) bytes count
   pub puts : Puts (readLine (readOf true (take count bytes))) 0 before end after
 
--- `R RECORD OFFSET N HEX`
+-- `R RECORD OFFSET PRESENT N HEX`
 unfoldable pub runLine : Outcome → List ℕ → List ℕ
-runLine (Accepted w c e b) lent = bytesLine 0 (0 ∷ 0 ∷ b ∷ []) lent
-runLine (Refused number n at) lent = bytesLine number (n ∷ at ∷ 0 ∷ []) lent
+runLine (Accepted w c e b) lent = bytesLine 0 (0 ∷ 0 ∷ 0 ∷ b ∷ []) lent
+runLine (Refused number n at present) lent = bytesLine number (n ∷ at ∷ present ∷ 0 ∷ []) lent
 
 -- `run ROOM HEX`: the outcome for the bytes that the word spells, and the lent bytes after it
 pub record RunAnswered (line before : List ℕ) (end : ℕ) (after : List ℕ) : Type 0 where

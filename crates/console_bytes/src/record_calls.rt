@@ -51,7 +51,10 @@ fn put_read(text: &mut [u8], read: Read) -> usize
 {
     match read {
         Read::Got(item, size) => put_item(text, size, item),
-        Read::Refused(number) => console_answers::put_refusal(text, number),
+        Read::Refused { number, present } => {
+            let values = [present];
+            console_answers::put_values(text, number, &values)
+        }
     }
 }
 
@@ -105,7 +108,7 @@ pub fn write(line: &[u8], text: &mut [u8]) -> usize {
 
 // ---- run
 
-// `R RECORD OFFSET N HEX`
+// `R RECORD OFFSET PRESENT N HEX`
 fn put_outcome(text: &mut [u8], outcome: Outcome, lent: &[u8]) -> usize
     ensures { λ r. ⌜ Puts (runLine outcome (now (lent .entry))) 0 (now (text .entry)) r (now (text .exit)) ⌝ }
 {
@@ -116,15 +119,16 @@ fn put_outcome(text: &mut [u8], outcome: Outcome, lent: &[u8]) -> usize
             entries: _,
             bytes,
         } => {
-            let values = [0, 0, bytes];
+            let values = [0, 0, 0, bytes];
             console_answers::put_bytes(text, 0, &values, lent)
         }
         Outcome::Refused {
             number,
             record,
             offset,
+            present,
         } => {
-            let values = [record, offset, 0];
+            let values = [record, offset, present, 0];
             console_answers::put_bytes(text, number, &values, lent)
         }
     }

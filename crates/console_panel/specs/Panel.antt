@@ -10,9 +10,9 @@ use Rattle.console_lines.specs.Words.{wordAt, roomAt}
 use Rattle.console_answers.specs.Answers.{bytesLine}
 use Rattle.console_bytes.specs.Lent.{lentBytes}
 
--- `R OFFSET W D N HEX`
+-- `R OFFSET PRESENT W D N HEX`
 unfoldable pub panelLine : Answer → List ℕ → List ℕ
-panelLine x lent = bytesLine (x .refusal) (x .offset ∷ x .width ∷ x .depth ∷ x .filled ∷ []) lent
+panelLine x lent = bytesLine (x .refusal) (x .offset ∷ x .present ∷ x .width ∷ x .depth ∷ x .filled ∷ []) lent
 
 -- `panel ROOM HEX`: what reading the bytes that the word spells answers, and the lent bytes after it
 pub record PanelAnswered (line before : List ℕ) (end : ℕ) (after : List ℕ) : Type 0 where

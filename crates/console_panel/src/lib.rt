@@ -6,12 +6,13 @@ use console_lines::numbers;
 use console_lines::words;
 use panels::Answer;
 
-// `R OFFSET W D N HEX`
+// `R OFFSET PRESENT W D N HEX`
 fn put_answer(text: &mut [u8], answer: Answer, lent: &[u8]) -> usize
     ensures { λ r. ⌜ Puts (panelLine answer (now (lent .entry))) 0 (now (text .entry)) r (now (text .exit)) ⌝ }
 {
     let values = [
         answer.offset,
+        answer.present,
         answer.width as usize,
         answer.depth as usize,
         answer.filled,

@@ -13,7 +13,7 @@ use Rattle.records.specs.Reading.{lengthIn, kindIn}
 use Rattle.records.proofs.RoundTrips.{both}
 use Rattle.designs.specs.Members.{series, beside}
 use Rattle.designs.specs.Records.{knownKind, lengthFits, behind, headNo}
-use Rattle.designs.specs.Leaves.{Read, refused, fault, leafOf}
+use Rattle.designs.specs.Leaves.{Read, refused, headFault, leafOf}
 use Rattle.designs.specs.Designs.{membersIn, joinedAt, bodyOf, recordAt}
 
 -- ---- the length of a kind is at least 4, and 5 of a cross
@@ -44,10 +44,10 @@ headed left outermost s h =
     let a = cleared (ltb (length s) 4) 10 _ h in
     let b = cleared (not (knownKind (kindIn s))) 12 _ (a .then) in
     let c = cleared (eqb (kindIn s) 20 && ltb (lengthIn s) 5) 11 _ (b .then) in
-    let d = cleared (eqb (kindIn s) 20 && ltb (length s) 5) 10 _ (c .then) in
+    let d = cleared (eqb (kindIn s) 20 && ltb (length s) 5) 22 _ (c .then) in
     let e = cleared (not (lengthFits (kindIn s) (lengthIn s) (getD s 4 0))) 11 _ (d .then) in
     let f = cleared (outermost && ltb (lengthIn s) (length s)) 11 _ (e .then) in
-    let g = cleared (ltb (length s) (lengthIn s)) 10 _ (f .then) in
+    let g = cleared (ltb (length s) (lengthIn s)) 22 _ (f .then) in
     let i = cleared (eqb left 0) 17 _ (g .then) in
     let known = both (leb 16 (kindIn s)) (leb (kindIn s) 20) (not-false (knownKind (kindIn s)) (b .fails)) in
     let fits = not-false (lengthFits (kindIn s) (lengthIn s) (getD s 4 0)) (e .fails) in
@@ -69,7 +69,7 @@ headed-end left s h =
     let a = cleared (ltb (length s) 4) 10 _ h in
     let b = cleared (not (knownKind (kindIn s))) 12 _ (a .then) in
     let c = cleared (eqb (kindIn s) 20 && ltb (lengthIn s) 5) 11 _ (b .then) in
-    let d = cleared (eqb (kindIn s) 20 && ltb (length s) 5) 10 _ (c .then) in
+    let d = cleared (eqb (kindIn s) 20 && ltb (length s) 5) 22 _ (c .then) in
     let e = cleared (not (lengthFits (kindIn s) (lengthIn s) (getD s 4 0))) 11 _ (d .then) in
     ltb-false (lengthIn s) (length s) (cleared (ltb (lengthIn s) (length s)) 11 _ (e .then) .fails)
 
@@ -78,7 +78,7 @@ unfolding behind
 length-behind left s w = length-take-le (lengthIn s - 4) (drop 4 s) (simp length-drop (omega (arith, w .body)))
 
 -- ---- a record by its head
-pub record-refused : (left : ℕ) (outermost : Bool) (at : ℕ) (s : List ℕ) → (headNo left outermost s ≡ 0 → ⊥) → recordAt left outermost at s ≡ refused (fault at (headNo left outermost s))
+pub record-refused : (left : ℕ) (outermost : Bool) (at : ℕ) (s : List ℕ) → (headNo left outermost s ≡ 0 → ⊥) → recordAt left outermost at s ≡ refused (headFault at (headNo left outermost s) (length s))
 unfolding recordAt
 record-refused zero outermost at s n = refl
 record-refused (suc left) outermost at s n = rw (ne-eqb _ 0 n)

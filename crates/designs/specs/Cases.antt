@@ -44,7 +44,10 @@ pub record Cases : Type 0 where
   pub named-feeds : feedOf (designOf bitonic4) ≡ 0 ∷ 1 ∷ 2 ∷ 3 ∷ 0 ∷ 2 ∷ 3 ∷ 1 ∷ 0 ∷ 2 ∷ 1 ∷ 3 ∷ 0 ∷ 1 ∷ 2 ∷ 3 ∷ []
   pub three-feed : feedOf (designOf threeWires) ≡ 2 ∷ 0 ∷ 1 ∷ []
   pub six-feed : feedOf (designOf sixWires) ≡ 5 ∷ 4 ∷ 3 ∷ 2 ∷ 1 ∷ 0 ∷ 0 ∷ 1 ∷ 2 ∷ 3 ∷ 4 ∷ 5 ∷ []
-  -- no bytes; a byte after the outermost record; a member longer than its parent
+  -- no bytes; a byte after the outermost record
   pub no-bytes : designOf [] ≡ refused (fault 0 11)
   pub byte-after : designOf (oneCell ++ 0 ∷ []) ≡ refused (fault 0 12)
-  pub past-parent : designOf (8 ∷ 0 ∷ 16 ∷ 0 ∷ 8 ∷ 0 ∷ 19 ∷ 0 ∷ []) ≡ refused (fault 4 11)
+  -- cut bodies: a member longer than its parent, the same where bytes stand behind the parent, a cross without its width byte
+  pub past-parent : designOf (8 ∷ 0 ∷ 16 ∷ 0 ∷ 8 ∷ 0 ∷ 19 ∷ 0 ∷ []) ≡ refused (record { refusal = 23; offset = 4; present = 4 })
+  pub cut-within : designOf (16 ∷ 0 ∷ 16 ∷ 0 ∷ 8 ∷ 0 ∷ 16 ∷ 0 ∷ 8 ∷ 0 ∷ 19 ∷ 0 ∷ oneCell) ≡ refused (record { refusal = 23; offset = 8; present = 4 })
+  pub no-width-byte : designOf (6 ∷ 0 ∷ 20 ∷ 0 ∷ []) ≡ refused (record { refusal = 23; offset = 0; present = 4 })

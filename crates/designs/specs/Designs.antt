@@ -11,7 +11,7 @@ use Rattle.designs.specs.declared.Fault.{Fault}
 use Rattle.designs.specs.Panels.{Panel}
 use Rattle.designs.specs.Members.{Joint, series, beside, joined, allEqual}
 use Rattle.designs.specs.Records.{behind, headNo}
-use Rattle.designs.specs.Leaves.{Read, refused, made, fault, judged, leafOf}
+use Rattle.designs.specs.Leaves.{Read, refused, made, headFault, judged, leafOf}
 
 -- ---- members from the left: the first refusal, or all of them
 pub data Members : Type 0 where
@@ -46,10 +46,10 @@ bodyOf m at k b =
 
 -- the record at the front of s, which stands at an offset, where so much nesting is left; a member's end is its parent's
 unfoldable pub recordAt : ℕ → Bool → ℕ → List ℕ → Read
-recordAt zero outermost at s = refused (fault at (headNo zero outermost s))
+recordAt zero outermost at s = refused (headFault at (headNo zero outermost s) (length s))
 recordAt (suc left) outermost at s =
     cond (eqb (headNo (suc left) outermost s) 0) (bodyOf (recordAt left false) at (kindIn s) (behind s))
-    (refused (fault at (headNo (suc left) outermost s)))
+    (refused (headFault at (headNo (suc left) outermost s) (length s)))
 
 -- a nesting of eight, in which the outermost counts as one
 unfoldable pub designOf : List ℕ → Read

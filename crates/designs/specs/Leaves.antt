@@ -8,6 +8,7 @@ use Rattle.order.specs.Order.{_⟶_, firstOf}
 use Rattle.network.specs.Widths.{openNo}
 use Rattle.feed_sheet.specs.Limits.{inLimits, permutation}
 use Rattle.records.specs.Fields.{field}
+use Rattle.records.specs.Reading.{presentOf}
 use Rattle.designs.specs.declared.Fault.{Fault}
 use Rattle.designs.specs.Panels.{Panel, cell, named, cross}
 
@@ -15,8 +16,13 @@ pub data Read : Type 0 where
   refused : Fault → Read
   made : Panel → Read
 
+-- a record at an offset is refused, and it is not cut
 abbrev pub fault : ℕ → ℕ → Fault
-fault at number = record { refusal = number; offset = at }
+fault at number = record { refusal = number; offset = at; present = 0 }
+
+-- the same by its head, with n bytes from its first to the end of its parent, or of the design: of a cut record all n are present
+abbrev pub headFault : ℕ → ℕ → ℕ → Fault
+headFault at number n = record { refusal = number; offset = at; present = presentOf number n }
 
 -- the record at an offset is refused by its own number, or makes a panel
 unfoldable pub judged : ℕ → ℕ → Panel → Read

@@ -20,7 +20,7 @@ lengthFits k n b = cond (eqb k 18) (eqb n 4) (cond (eqb k 19) (eqb n 8) (cond (e
 unfoldable pub behind : List ℕ → List ℕ
 behind s = take (lengthIn s - 4) (drop 4 s)
 
--- The record at the front of s, which ends where s does or before: 11 for the head (no bytes count too); 13; 12; 11 for the body,
+-- The record at the front of s, which ends where s does or before: 11 a cut head (no bytes count too); 13; 12; 23 a cut body,
 -- in which a cross's width byte past the end counts; 12 for bytes after the outermost record; 18 where no nesting is left; 19.
 unfoldable pub headNo : ℕ → Bool → List ℕ → ℕ
 headNo left outermost s =
@@ -28,10 +28,10 @@ headNo left outermost s =
     ((ltb (length s) 4 ⟶ 11)
     ∷ (not (knownKind (kindIn s)) ⟶ 13)
     ∷ ((eqb (kindIn s) 20 && ltb (lengthIn s) 5) ⟶ 12)
-    ∷ ((eqb (kindIn s) 20 && ltb (length s) 5) ⟶ 11)
+    ∷ ((eqb (kindIn s) 20 && ltb (length s) 5) ⟶ 23)
     ∷ (not (lengthFits (kindIn s) (lengthIn s) (getD s 4 0)) ⟶ 12)
     ∷ ((outermost && ltb (lengthIn s) (length s)) ⟶ 12)
-    ∷ (ltb (length s) (lengthIn s) ⟶ 11)
+    ∷ (ltb (length s) (lengthIn s) ⟶ 23)
     ∷ (eqb left 0 ⟶ 18)
     ∷ ((leb (kindIn s) 17 && eqb (lengthIn s) 4) ⟶ 19)
     ∷ [])

@@ -8,10 +8,11 @@ use feed_sheet::in_limits;
 use feed_sheet::is_permutation;
 use records::field_of_two;
 
-// Why a design is refused: the number, and the offset of the record refused.
+// Why a design is refused: the number, the offset of the record refused, and how many bytes of it are present where it is cut, else 0.
 pub struct Fault {
     pub refusal: u8,
     pub offset: usize,
+    pub present: usize,
 }
 
 // The byte behind the head, 0 where there is none.
@@ -51,7 +52,7 @@ pub fn head_refusal(bytes: &[u8], left: usize, outermost: bool) -> u8
         return 12;
     }
     if (kind == 20) & (n < 5) {
-        return 11;
+        return 23;
     }
     if !fits {
         return 12;
@@ -60,7 +61,7 @@ pub fn head_refusal(bytes: &[u8], left: usize, outermost: bool) -> u8
         return 12;
     }
     if n < size as usize {
-        return 11;
+        return 23;
     }
     if left == 0 {
         return 18;

@@ -37,6 +37,6 @@ pub record Facts : Type 0 where
   -- 9. m = 0: every share 0. m = 5, w = 4: shares 2, 1, 1, 1
   pub nine : ((w i : ℕ) → 0 < w → share 0 i w ≡ 0) × (share 5 0 4 ≡ 2) × (share 5 1 4 ≡ 1) × (share 5 2 4 ≡ 1) × (share 5 3 4 ≡ 1)
   -- 10. Empty schedule: 14, record 0, offset 0. Three bytes: 11
-  pub ten : ((room : ℕ) → runOf [] room ≡ Refused 14 0 0) × ((a b c room : ℕ) → runOf (a ∷ b ∷ c ∷ []) room ≡ Refused 11 0 0)
+  pub ten : ((room : ℕ) → runOf [] room ≡ Refused 14 0 0 0) × ((a b c room : ℕ) → runOf (a ∷ b ∷ c ∷ []) room ≡ Refused 11 0 0 3)
   -- 11. Width 3: 1. Width 128: 1. Wire 4 at width 4: 5
   pub eleven : (openOf 3 1 .refusal ≡ 1) × (openOf 128 1 .refusal ≡ 1) × (enterOf (openOf 4 1 .run) 0 4 .refusal ≡ 5)

@@ -33,9 +33,9 @@ use Rattle.filed.proofs.Course.{Reported, Follows, follows-step}
 Files : List Call → Told → Type 0
 Files calls t = valuesOf (t .outcome) .refusal ≡ 0 → Filed calls (t .reports) (valuesOf (t .outcome))
 
-files-stopped : (calls : List Call) (k n at : ℕ) → Fault k → Files calls (stopped k n at)
+files-stopped : (calls : List Call) (k n at present : ℕ) → Fault k → Files calls (stopped k n at present)
 unfolding Files valuesOf
-files-stopped calls k n at f h = absurd (f .some h)
+files-stopped calls k n at present f h = absurd (f .some h)
 
 -- ---- at the end
 -- as many numbers are dealt as have entered, 12 bytes each
@@ -111,9 +111,9 @@ module _ (calls : List Call) (reports out : List ℕ) where
   Writes : Outcome → Type 0
   Writes r = valuesOf r .refusal ≡ 0 → Filed calls (take (valuesOf r .bytes) (afterRun r reports out)) (valuesOf r)
 
-  writes-refused : (k n at : ℕ) → (k ≡ 0 → ⊥) → Writes (Refused k n at)
+  writes-refused : (k n at present : ℕ) → (k ≡ 0 → ⊥) → Writes (Refused k n at present)
   unfolding Writes valuesOf
-  writes-refused k n at apart h = absurd (apart h)
+  writes-refused k n at present apart h = absurd (apart h)
 
   writes-settled : (o : Outcome) → Files calls (record { outcome = o; reports = reports })
       → Writes (settle (record { outcome = o; reports = reports }) (length out))
@@ -123,8 +123,8 @@ module _ (calls : List Call) (reports out : List ℕ) where
       (λ l h.
       let front : take b (afterRun (Accepted w c e b) reports out) ≡ reports = take-at reports (drop (length reports) out) b (length-filed (f h)) in
       rw front (f h))
-      (λ l. writes-refused 17 0 0 (λ z. omega arith))
-  writes-settled (Refused k n at) f = λ h. let never : _≡_ {A = ℕ} 1 0 = f h .allowed in absurd (omega arith)
+      (λ l. writes-refused 17 0 0 0 (λ z. omega arith))
+  writes-settled (Refused k n at present) f = λ h. let never : _≡_ {A = ℕ} 1 0 = f h .allowed in absurd (omega arith)
 
 pub filed-schedules : FiledSchedules
 unfolding Files Writes runOf outputOf
@@ -132,6 +132,6 @@ filed-schedules = record {
   told = files-tell;
   written = λ s out.
       cond-case (Writes (callsIn s) (tell s .reports) out) (ltb 65536 (length s)) _ _
-      (λ l. writes-refused (callsIn s) _ out 16 0 0 (λ z. omega arith))
+      (λ l. writes-refused (callsIn s) _ out 16 0 0 0 (λ z. omega arith))
       (λ l. writes-settled (callsIn s) (tell s .reports) out (tell s .outcome) (files-tell s));
 }

@@ -21,7 +21,7 @@ callIn (Number t v n) = []
 -- where a record was read, its call, and the calls behind its length
 unfoldable pub callsRead : Read → (ℕ → List Call) → List Call
 callsRead (Got r len) behind = callIn r ++ behind len
-callsRead (Unread k) behind = []
+callsRead (Unread k present) behind = []
 
 -- The calls from the offset `at` on, as far as records read. The first argument bounds the records; there are at most as many as
 -- bytes.

@@ -5,7 +5,7 @@ ghost use lib.ListN.{length, drop};
 ghost use Rattle.network.specs.Widths.{openNo, depthOf};
 ghost use Rattle.records.specs.Fields.{field};
 ghost use Rattle.designs.specs.Panels.{cell, named, cross};
-ghost use Rattle.designs.specs.Leaves.{made, fault, judged, crossNo, leafOf};
+ghost use Rattle.designs.specs.Leaves.{made, fault, headFault, judged, crossNo, leafOf};
 ghost use Rattle.leaves.specs.declared.Judged.the-variants.{Refused};
 ghost use Rattle.leaves.specs.Grid.{PutPanel};
 ghost use Rattle.leaves.specs.Told.{toldAt, ReadInto};
@@ -17,6 +17,7 @@ use designs::cross_refusal;
 use grid::in_order;
 use grid::put_places;
 use records::field_of_two;
+use records::present_of;
 
 pub struct Size {
     pub width: usize,
@@ -29,13 +30,26 @@ pub enum Judged {
     Made(Size),
 }
 
-// The record at an offset is refused; every refusal of a record is made here.
+// The record at an offset is refused, and it is not cut.
 pub fn refused(number: u8, at: usize) -> Judged
     ensures { λ r. ⌜ r ≡ Refused (fault at number) ⌝ }
 {
     Judged::Refused(Fault {
         refusal: number,
         offset: at,
+        present: 0,
+    })
+}
+
+// The same by its head, with n bytes from its first to the end of its parent.
+pub fn refused_head(number: u8, at: usize, n: usize) -> Judged
+    ensures { λ r. ⌜ r ≡ Refused (headFault at number n) ⌝ }
+{
+    let present = present_of(number, n);
+    Judged::Refused(Fault {
+        refusal: number,
+        offset: at,
+        present,
     })
 }
 

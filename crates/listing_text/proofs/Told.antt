@@ -24,9 +24,9 @@ pub record Bytes (t : Told) (room b : ℕ) : Type 0 where
 AllTold : Told → Type 0
 AllTold t = (w c e b : ℕ) → t .outcome ≡ Accepted w c e b → b ≡ length (t .reports)
 
-all-stopped : (k n at : ℕ) → Fault k → AllTold (stopped k n at)
+all-stopped : (k n at present : ℕ) → Fault k → AllTold (stopped k n at present)
 unfolding AllTold
-all-stopped k n at f w c e b h = let never : _≡_ {A = ℕ} 0 1 = cc in absurd (omega arith)
+all-stopped k n at present f w c e b h = let never : _≡_ {A = ℕ} 0 1 = cc in absurd (omega arith)
 
 all-accepted : (x : Course) (done : List ℕ) → AllTold (accepted x done)
 unfolding AllTold
@@ -39,7 +39,7 @@ all-told s =
     (λ more x at len done y kept p e. tt) (suc (length s)) atStart 0 0 [] tt
 
 -- what is accepted behind a test that may refuse
-passed : (x : Bool) (o : Outcome) (k w c e b : ℕ) → cond x o (Refused k 0 0) ≡ Accepted w c e b → (x ≡ true) × (o ≡ Accepted w c e b)
+passed : (x : Bool) (o : Outcome) (k w c e b : ℕ) → cond x o (Refused k 0 0 0) ≡ Accepted w c e b → (x ≡ true) × (o ≡ Accepted w c e b)
 passed true o k w c e b h = (refl, h)
 passed false o k w c e b h = let never : _≡_ {A = ℕ} 0 1 = cc in absurd (omega arith)
 
@@ -52,9 +52,9 @@ settled-bytes (Accepted w′ c′ e′ b′) reports room w c e b all h =
     let p = passed (leb b′ room) _ 17 w c e b h in
     let same : b ≡ b′ = let q = p .1 in cc in
     record { all = all w c e b (p .1); within = rw same (leb-true b′ room (p .0)) }
-settled-bytes (Refused k n at) reports room w c e b all h = let never : _≡_ {A = ℕ} 0 1 = cc in absurd (omega arith)
+settled-bytes (Refused k n at present) reports room w c e b all h = let never : _≡_ {A = ℕ} 0 1 = cc in absurd (omega arith)
 
-short : (x : Bool) (o : Outcome) (w c e b : ℕ) → cond x (Refused 16 0 0) o ≡ Accepted w c e b → (x ≡ false) × (o ≡ Accepted w c e b)
+short : (x : Bool) (o : Outcome) (w c e b : ℕ) → cond x (Refused 16 0 0 0) o ≡ Accepted w c e b → (x ≡ false) × (o ≡ Accepted w c e b)
 short true o w c e b h = let never : _≡_ {A = ℕ} 0 1 = cc in absurd (omega arith)
 short false o w c e b h = (refl, h)
 
@@ -73,7 +73,7 @@ unfolding settle
 settled-more (Accepted w′ c′ e′ b′) reports room more w c e b wider h =
     let p = passed (leb b′ room) _ 17 w c e b h in
     rw (le-leb b′ more (omega (arith, leb-true b′ room (p .0)))) (p .1)
-settled-more (Refused k n at) reports room more w c e b wider h = h
+settled-more (Refused k n at present) reports room more w c e b wider h = h
 
 pub run-more : (s : List ℕ) (room more w c e b : ℕ) → room ≤ more → runOf s room ≡ Accepted w c e b → runOf s more ≡ Accepted w c e b
 unfolding runOf

@@ -54,7 +54,7 @@ text-most (Accepted w c e b) reports few =
     let small = few w c e b refl in
     let lines = length-lines (b / 12) reports 0 .1 in
     simp length-append (omega (arith, length-network w c, length-rest e))
-text-most (Refused k n at) reports few = omega (arith, length-refused k n at)
+text-most (Refused k n at present) reports few = omega (arith, length-refused k n at)
 
 pub listing-most : (s : List ℕ) → length (listingOf s) ≤ 350000
 unfolding listingOf
@@ -84,7 +84,7 @@ unfolding textOf acceptedText afterRun
 text-after (Accepted w c e b) reports out all =
     let same = all w c e b refl in
     ap (λ (lines : List ℕ). networkLine w c ++ (lines ++ restLine e)) (lines-append (b / 12) reports (drop (length reports) out) 0 (omega arith))
-text-after (Refused k n at) reports out all = refl
+text-after (Refused k n at present) reports out all = refl
 
 -- the place behind a text that is put in front is the room that it wants
 pub text-wanted : {text before after : List ℕ} {next : ℕ} → length text < 2 ^ 64 → Puts text 0 before next after → next ≡ length text

@@ -21,7 +21,7 @@ acceptedText w c e b reports = networkLine w c ++ (reportLines (b / 12) reports 
 
 unfoldable pub textOf : Outcome → List ℕ → List ℕ
 textOf (Accepted w c e b) reports = acceptedText w c e b reports
-textOf (Refused k n at) reports = refusedLine k n at
+textOf (Refused k n at present) reports = refusedLine k n at
 
 -- the reports have 65,536 bytes of room, as many as the longest schedule: each report of 12 bytes comes of an enter and a turn
 unfoldable pub listingOf : List ℕ → List ℕ

@@ -101,6 +101,7 @@ fn put_outcome(out: &mut [u8], outcome: Outcome, reports: &[u8]) -> usize
             number,
             record,
             offset,
+            present: _,
         } => put_refused(out, number as usize, record, offset),
     }
 }

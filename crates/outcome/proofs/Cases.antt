@@ -15,7 +15,7 @@ use Rattle.moves.specs.Enter.{enterNo, entering, enterWith}
 use Rattle.moves.specs.Turn.{turnNo, passing, dealing, turnWith}
 use Rattle.run.specs.Run.{fresh, openOf, depthIn, sound, enterOf, feedsOf, turnOf}
 use Rattle.records.specs.Fields.{spelt, bytesIn}
-use Rattle.records.specs.Reading.{lengthOf, known, recordIn, readNo, readOf}
+use Rattle.records.specs.Reading.{lengthOf, known, recordIn, readNo, presentOf, readOf}
 use Rattle.records.specs.Writing.{sizeOf, bytesOf}
 use Rattle.outcome.specs.Course.{atStart}
 use Rattle.outcome.specs.Step.{reportOf, closeNo, phaseNo, placeNo, servedOf, stepOf}
@@ -33,10 +33,10 @@ pub case-reports : tell caseBytes .reports ≡ bytesOf (Number 5 1 1) ++ bytesOf
 unfolding firstOf widthOk constructionOk openNo levels depthOf part bitonic place placeOf freshBoard placeAt countAt downAt all sumOf fewEntered placesOk countsBeyond togglesBeyond dealtSum insideSum addsUp soundBoard valuesOf enterNo entering enterWith turnNo passing dealing turnWith fresh openOf depthIn sound enterOf feedsOf turnOf spelt bytesIn lengthOf known recordIn readNo readOf sizeOf bytesOf atStart reportOf closeNo phaseNo placeNo servedOf stepOf recordAt onRead tellFrom tell settle runOf caseBytes
 case-reports = refl
 
-pub empty-schedule : (room : ℕ) → runOf [] room ≡ Refused 14 0 0
+pub empty-schedule : (room : ℕ) → runOf [] room ≡ Refused 14 0 0 0
 unfolding tellFrom tell settle runOf atStart recordAt onRead
 empty-schedule room = refl
 
-pub three-bytes : (a b c room : ℕ) → runOf (a ∷ b ∷ c ∷ []) room ≡ Refused 11 0 0
-unfolding tellFrom tell settle runOf atStart recordAt onRead readOf readNo firstOf
+pub three-bytes : (a b c room : ℕ) → runOf (a ∷ b ∷ c ∷ []) room ≡ Refused 11 0 0 3
+unfolding tellFrom tell settle runOf atStart recordAt onRead readOf readNo presentOf firstOf
 three-bytes a b c room = refl

@@ -1,11 +1,13 @@
--- The numbers that a schedule's records are refused by are at most 15. In order: reading; a record's place; a record.
--- Assumes nothing.
-use Prim.Native.Nat.{ℕ, _≤_}
-use mathlib.Core.Path.{refl}
-use mathlib.Core.Bool.{Bool}
-use mathlib.Core.List.{List}
-use lib.Dec.{eqb, lit≤}
-use Rattle.order.proofs.Order.{atMost, firstOf-le}
+-- 17, the number of the output room, is none that a record is refused by. In order: any list of refusals; reading; a record's place;
+-- a record. Assumes nothing.
+use Prim.Native.Nat.{ℕ}
+use mathlib.Core.Path.{_≡_, refl}
+use mathlib.Core.Bool.{Bool, true, false, not, cond, _&&_}
+use mathlib.Core.List.{List, [], _∷_}
+use lib.Dec.{eqb}
+use borrow.Author.Tests.{eqb-false}
+use native.Mathlib.Omega.{arith}
+use Rattle.order.specs.Order.{Refusal, firstOf}
 use Rattle.network.specs.Widths.{openNo}
 use Rattle.moves.specs.Enter.{enterNo}
 use Rattle.moves.specs.Turn.{turnNo}
@@ -19,27 +21,44 @@ use Rattle.records.specs.Reading.{readNo}
 use Rattle.outcome.specs.Course.{Course, Step}
 use Rattle.outcome.specs.Step.{closeNo, phaseNo, placeNo, servedOf, stepOf}
 
-pub readNo-le : (reports : Bool) (s : List ℕ) → readNo reports s ≤ 15
-unfolding readNo atMost
-readNo-le reports s = firstOf-le 15 _ refl
+-- no number of the list is 17
+unfoldable without17 : List Refusal → Bool
+without17 [] = true
+without17 (r ∷ rs) = not (eqb (r .number) 17) && without17 rs
 
-place-le : (p : ℕ) (r : Record) → placeNo p r ≤ 15
-unfolding placeNo phaseNo atMost
-place-le p (Open w c) = firstOf-le 15 _ refl
-place-le p (Enter t v) = firstOf-le 15 _ refl
-place-le p (Turn t) = firstOf-le 15 _ refl
-place-le p (Close e) = firstOf-le 15 _ refl
-place-le p (Number t v n) = lit≤ tt
+head-other : (b c : Bool) (k m : ℕ) (rs : List Refusal) → eqb k 17 ≡ c → not c && without17 rs ≡ true → (without17 rs ≡ true → m ≡ 17 → ⊥)
+    → cond b k m ≡ 17 → ⊥
+head-other b true k m rs e h f = let never : _≡_ {A = ℕ} 0 1 = cc in absurd (omega arith)
+head-other true false k m rs e h f = eqb-false k 17 e
+head-other false false k m rs e h f = f h
 
-served-le : (x : Run) (r : Record) → servedOf x r .refusal ≤ 15
-unfolding servedOf openOf openNo enterNo turnNo closeNo atMost
-served-le x (Open w c) = firstOf-le 15 _ refl
-served-le x (Enter t v) = rw enter-number (firstOf-le 15 _ refl)
-served-le x (Turn t) = rw turn-answer (firstOf-le 15 _ refl)
-served-le x (Close e) = firstOf-le 15 _ refl
-served-le x (Number t v n) = lit≤ tt
+firstOf-other : (rs : List Refusal) → without17 rs ≡ true → firstOf rs ≡ 17 → ⊥
+unfolding firstOf without17
+firstOf-other [] h = λ e. omega arith
+firstOf-other (r ∷ rs) h = head-other (r .when) (eqb (r .number) 17) (r .number) (firstOf rs) rs refl h (firstOf-other rs)
 
-pub refusal-le : (x : Course) (r : Record) → stepOf x r .refusal ≤ 15
+pub readNo-other : (reports : Bool) (s : List ℕ) → readNo reports s ≡ 17 → ⊥
+unfolding readNo without17
+readNo-other reports s = firstOf-other _ refl
+
+place-other : (p : ℕ) (r : Record) → placeNo p r ≡ 17 → ⊥
+unfolding placeNo phaseNo without17
+place-other p (Open w c) = firstOf-other _ refl
+place-other p (Enter t v) = firstOf-other _ refl
+place-other p (Turn t) = firstOf-other _ refl
+place-other p (Close e) = firstOf-other _ refl
+place-other p (Number t v n) = λ h. omega arith
+
+served-other : (x : Run) (r : Record) → servedOf x r .refusal ≡ 17 → ⊥
+unfolding servedOf openOf openNo enterNo turnNo closeNo without17
+served-other x (Open w c) = firstOf-other _ refl
+served-other x (Enter t v) = rw enter-number (firstOf-other _ refl)
+served-other x (Turn t) = rw turn-answer (firstOf-other _ refl)
+served-other x (Close e) = firstOf-other _ refl
+served-other x (Number t v n) = λ h. omega arith
+
+pub refusal-other : (x : Course) (r : Record) → stepOf x r .refusal ≡ 17 → ⊥
 unfolding stepOf
-refusal-le x r =
-    cond-case (λ (y : Step). y .refusal ≤ 15) (eqb (placeNo (x .phase) r) 0) _ _ (λ _. served-le (x .run) r) (λ _. place-le (x .phase) r)
+refusal-other x r =
+    cond-case (λ (y : Step). y .refusal ≡ 17 → ⊥) (eqb (placeNo (x .phase) r) 0) _ _
+    (λ _. served-other (x .run) r) (λ _. place-other (x .phase) r)

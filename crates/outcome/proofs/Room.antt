@@ -120,20 +120,21 @@ kept-step {x = x} {done = done} {y = y} k p h = record {
 record Bounded (s : List ℕ) (t : Told) : Type 0 where
   reports : length (t .reports) ≤ length s
   bytes : valuesOf (t .outcome) .bytes ≤ length s
-  number : valuesOf (t .outcome) .refusal ≤ 15
+  number : valuesOf (t .outcome) .refusal ≡ 17 → ⊥
 
 bounded-tell : (s : List ℕ) → Bounded s (tell s)
 unfolding tell valuesOf
 bounded-tell s =
-    told-from s (Bounded s) (λ more. Kept s) (λ k n at f. omega (arith, f .most))
-    (λ more x at done k closed end. omega (arith, k .paid, k .within))
+    told-from s (Bounded s) (λ more. Kept s) (λ k n at present f. record { reports = omega arith; bytes = omega arith; number = f .other })
+    (λ more x at done k closed end.
+    record { reports = omega (arith, k .paid, k .within); bytes = omega (arith, k .paid, k .within); number = λ e. omega arith })
     (λ more x at len done y. kept-step) (suc (length s)) atStart 0 0 [] (kept-start s)
 
 -- ---- the whole call: with room for the bytes told, the outcome stands
 settle-fits : (o : Outcome) (reports : List ℕ) (room : ℕ) → valuesOf o .bytes ≤ room → settle (record { outcome = o; reports = reports }) room ≡ o
 unfolding settle valuesOf
 settle-fits (Accepted w c e b) reports room fits = rw (le-leb b room fits)
-settle-fits (Refused k n at) reports room fits = refl
+settle-fits (Refused k n at p) reports room fits = refl
 
 pub room-enough : Room
 unfolding runOf valuesOf
@@ -145,5 +146,5 @@ room-enough = record {
       (λ _ e. omega arith)
       (λ short e.
       let fits : valuesOf (tell s .outcome) .bytes ≤ room = omega (arith, told .bytes, ltb-false 65536 (length s) short) in
-      omega (arith, told .number, rw (settle-fits (tell s .outcome) (tell s .reports) room fits) at e));
+      told .number (rw (settle-fits (tell s .outcome) (tell s .reports) room fits) at e));
 }

@@ -20,7 +20,7 @@ use Rattle.records.proofs.Reading.{Whole, whole→read, read-length}
 use Rattle.outcome.specs.Course.{Course, Step}
 use Rattle.outcome.specs.Step.{stepOf}
 use Rattle.outcome.specs.Schedule.{Told, stopped, accepted, recordAt, onRead, tellFrom}
-use Rattle.outcome.proofs.Faults.{readNo-le, refusal-le}
+use Rattle.outcome.proofs.Faults.{readNo-other, refusal-other}
 
 -- ---- the record at an offset
 -- the part of a slice from a place on, as the code lends it
@@ -28,7 +28,7 @@ pub record-part : (s : List ℕ) (at : ℕ) → at < length s → readOf false (
 unfolding recordAt
 record-part s at h = rw (take-all (length s - at) (drop at s) (simp length-drop (omega arith)), lt-ltb _ _ h)
 
-pub record-none : (s : List ℕ) (at : ℕ) → length s ≤ at → Unread 14 ≡ recordAt s at
+pub record-none : (s : List ℕ) (at : ℕ) → length s ≤ at → Unread 14 0 ≡ recordAt s at
 unfolding recordAt
 record-none s at h = rw (le-ltb _ _ h)
 
@@ -48,14 +48,19 @@ record-turn s at t fits size kind token =
     } in
     rw (lt-ltb at (length s) (omega arith), whole→read false d whole, is-kind, field-is)
 
--- a number that a record is refused by
+-- a number that a record is refused by: never that of the output room
 pub record Fault (k : ℕ) : Type 0 where
   pub some : k ≡ 0 → ⊥
-  pub most : k ≤ 15
+  pub other : k ≡ 17 → ⊥
 
-read-fault : (b : Bool) (q : Record) (m n k : ℕ) → n ≤ 15 → eqb n 0 ≡ b → cond b (Got q m) (Unread n) ≡ Unread k → Fault k
-read-fault true q m n k l e h = let never : _≡_ {A = ℕ} 0 1 = cc in absurd (omega arith)
-read-fault false q m n k l e h = let same : n ≡ k = cc in omega (arith, eqb-false n 0 e)
+late : Fault 14
+late = record { some = λ e. omega arith; other = λ e. omega arith }
+
+read-fault : (b : Bool) (q : Record) (m n p k present : ℕ) → (n ≡ 17 → ⊥) → eqb n 0 ≡ b → cond b (Got q m) (Unread n p) ≡ Unread k present → Fault k
+read-fault true q m n p k present l e h = let never : _≡_ {A = ℕ} 0 1 = cc in absurd (omega arith)
+read-fault false q m n p k present l e h =
+    let same : n ≡ k = cc in
+    record { some = rw same at (eqb-false n 0 e); other = rw same at l }
 
 -- a record that is there is read behind the offset; one that is not has a number
 pub record At (s : List ℕ) (at len : ℕ) : Type 0 where
@@ -64,17 +69,17 @@ pub record At (s : List ℕ) (at len : ℕ) : Type 0 where
   pub within : at + len ≤ length s
 
 at-got : (b : Bool) (s : List ℕ) (at : ℕ) (item : Record) (len : ℕ) → ltb at (length s) ≡ b
-    → cond b (readOf false (drop at s)) (Unread 14) ≡ Got item len → At s at len
+    → cond b (readOf false (drop at s)) (Unread 14 0) ≡ Got item len → At s at len
 at-got true s at item len e h =
     let more = ltb-true _ _ e in
     let l = read-length false (drop at s) item len h in
     record { more = more; onward = l .least; within = omega (arith, l .within, length-drop at s) }
 at-got false s at item len e h = let never : _≡_ {A = ℕ} 0 1 = cc in absurd (omega arith)
 
-at-unread : (b : Bool) (s : List ℕ) (at k : ℕ) → cond b (readOf false (drop at s)) (Unread 14) ≡ Unread k → Fault k
+at-unread : (b : Bool) (s : List ℕ) (at k present : ℕ) → cond b (readOf false (drop at s)) (Unread 14 0) ≡ Unread k present → Fault k
 unfolding readOf
-at-unread true s at k h = read-fault _ _ _ (readNo false (drop at s)) k (readNo-le false (drop at s)) refl h
-at-unread false s at k h = let same : 14 ≡ k = cc in omega arith
+at-unread true s at k present h = read-fault _ _ _ (readNo false (drop at s)) _ k present (readNo-other false (drop at s)) refl h
+at-unread false s at k present h = let same : 14 ≡ k = cc in rw (← same) late
 
 -- ---- a record that is read and carried out: what is known of it, at the course x and the offset `at`
 pub record Stepped (s : List ℕ) (x : Course) (at len : ℕ) (y : Step) : Type 0 where
@@ -97,7 +102,7 @@ module _ (s : List ℕ) (x : Course) (at n : ℕ) (done : List ℕ) (few : n ≤
   opens = ap (λ (f : ℕ). tellFrom f s x at n done) (omega arith)
 
   module _ (closed : x .phase ≡ 2) where
-    pub rest-late : at < length s → Rest ≡ stopped 14 n at
+    pub rest-late : at < length s → Rest ≡ stopped 14 n at 0
     unfolding tellFrom
     rest-late h = opens ∙ rw (eq-eqb _ 2 closed, lt-ltb _ _ h)
 
@@ -105,12 +110,12 @@ module _ (s : List ℕ) (x : Course) (at n : ℕ) (done : List ℕ) (few : n ≤
     unfolding tellFrom
     rest-whole h = opens ∙ rw (eq-eqb _ 2 closed, le-ltb _ _ h)
 
-  pub rest-unread : (x .phase ≡ 2 → ⊥) → (k : ℕ) → recordAt s at ≡ Unread k → Rest ≡ stopped k n at
+  pub rest-unread : (x .phase ≡ 2 → ⊥) → (k present : ℕ) → recordAt s at ≡ Unread k present → Rest ≡ stopped k n at present
   unfolding tellFrom onRead
-  rest-unread running k e = opens ∙ rw (ne-eqb _ 2 running, e)
+  rest-unread running k present e = opens ∙ rw (ne-eqb _ 2 running, e)
 
   module _ (len : ℕ) (y : Step) (p : Stepped s x at len y) where
-    pub rest-refused : (y .refusal ≡ 0 → ⊥) → Rest ≡ stopped (y .refusal) n at
+    pub rest-refused : (y .refusal ≡ 0 → ⊥) → Rest ≡ stopped (y .refusal) n at 0
     unfolding tellFrom onRead
     rest-refused h = opens ∙ rw (ne-eqb _ 2 (p .running), p .read, ← p .did, ne-eqb _ 0 h)
 
@@ -123,31 +128,31 @@ module _ (s : List ℕ) (x : Course) (at n : ℕ) (done : List ℕ) (few : n ≤
         (ap (λ (f : ℕ). tellFrom f s (y .course) (at + len) (n + 1) (done ++ y .report)) one-less)
 
 -- ---- of every schedule: what holds where it is stopped and where it is accepted, and is kept by each record passed
-read-case : (P : Told → Type 0) (q : Read) (f : Record → ℕ → Told) (g : ℕ → Told)
-    → ((r : Record) (len : ℕ) → q ≡ Got r len → P (f r len)) → ((k : ℕ) → q ≡ Unread k → P (g k)) → P (onRead q f g)
+read-case : (P : Told → Type 0) (q : Read) (f : Record → ℕ → Told) (g : ℕ → ℕ → Told)
+    → ((r : Record) (len : ℕ) → q ≡ Got r len → P (f r len)) → ((k present : ℕ) → q ≡ Unread k present → P (g k present)) → P (onRead q f g)
 unfolding onRead
 read-case P (Got r len) f g a b = a r len refl
-read-case P (Unread k) f g a b = b k refl
+read-case P (Unread k present) f g a b = b k present refl
 
 -- Kept: with the bound of the records still to come, at a course and an offset, and with reports done
 module _ (s : List ℕ) (P : Told → Type 0) (Kept : ℕ → Course → ℕ → List ℕ → Type 0)
-    (is-stopped : (k n at : ℕ) → Fault k → P (stopped k n at))
+    (is-stopped : (k n at present : ℕ) → Fault k → P (stopped k n at present))
     (is-accepted : (more : ℕ) (x : Course) (at : ℕ) (done : List ℕ) → Kept (suc more) x at done → x .phase ≡ 2 → length s ≤ at
     → P (accepted x done))
     (is-passed : (more : ℕ) (x : Course) (at len : ℕ) (done : List ℕ) (y : Step) → Kept (suc more) x at done → Stepped s x at len y
     → y .refusal ≡ 0 → Kept more (y .course) (at + len) (done ++ y .report)) where
   pub told-from : (more : ℕ) (x : Course) (at n : ℕ) (done : List ℕ) → Kept more x at done → P (tellFrom more s x at n done)
   unfolding tellFrom recordAt
-  told-from zero x at n done kept = is-stopped 14 n at (omega arith)
+  told-from zero x at n done kept = is-stopped 14 n at 0 late
   told-from (suc more) x at n done kept =
       cond-case P (eqb (x .phase) 2) _ _
-      (λ closed. cond-case P (ltb at (length s)) (stopped 14 n at) (accepted x done)
-      (λ l. is-stopped 14 n at (omega arith))
+      (λ closed. cond-case P (ltb at (length s)) (stopped 14 n at 0) (accepted x done)
+      (λ l. is-stopped 14 n at 0 late)
       (λ l. is-accepted more x at done kept (eqb-true _ 2 closed) (ltb-false _ _ l)))
       (λ running. read-case P (recordAt s at) _ _
       (λ r len q. let y = stepOf x r in
       cond-case P (eqb (y .refusal) 0) (tellFrom more s (y .course) (at + len) (n + 1) (done ++ y .report)) _
       (λ e. told-from more (y .course) (at + len) (n + 1) (done ++ y .report)
       (is-passed more x at len done y kept (record { running = eqb-false _ 2 running; item = r; read = q; did = refl }) (eqb-true _ 0 e)))
-      (λ e. is-stopped (y .refusal) n at (record { some = eqb-false _ 0 e; most = refusal-le x r })))
-      (λ k e. is-stopped k n at (at-unread (ltb at (length s)) s at k e)))
+      (λ e. is-stopped (y .refusal) n at 0 (record { some = eqb-false _ 0 e; other = refusal-other x r })))
+      (λ k present e. is-stopped k n at present (at-unread (ltb at (length s)) s at k present e)))

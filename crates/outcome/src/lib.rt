@@ -11,10 +11,12 @@ pub enum Outcome {
         entries: u32,
         bytes: usize,
     },
-    // The number of the refusal, the record's number from 0 and its offset.
+    // The number of the refusal, the record's number from 0 and its offset, and how many bytes of it are present where it is cut,
+    // else 0.
     Refused {
         number: u8,
         record: usize,
         offset: usize,
+        present: usize,
     },
 }

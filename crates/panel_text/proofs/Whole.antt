@@ -69,7 +69,7 @@ module _ (before after : List ℕ) (a : Answer) (room : length before ≡ 2368) 
       let f′ = fair p refl in
       let zero-no = room-is p (length before) (rw room (few-places p f′)) in
       let some : p .width ≡ 0 → ⊥ = λ z. omega (arith, f′ .some) in
-      let is : a ≡ record { refusal = 0; offset = 0; width = p .width; depth = p .depth; filled = feedLength p } = rw zero-no at e in
+      let is : a ≡ record { refusal = 0; offset = 0; present = 0; width = p .width; depth = p .depth; filled = feedLength p } = rw zero-no at e in
       let filled : after ≡ over (feedSheet p) before = rw zero-no at f in
       record {
         text = rw (is, filled, taken p (drop (length (feedSheet p)) before), ne-eqb _ 0 some);

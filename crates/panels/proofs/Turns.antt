@@ -8,7 +8,7 @@ use lib.ListN.{length, take, drop, length-drop}
 use Rattle.records.specs.Reading.{lengthIn, kindIn}
 use Rattle.designs.specs.Members.{series, beside}
 use Rattle.designs.specs.Records.{behind, headNo}
-use Rattle.designs.specs.Leaves.{Read, refused, fault, leafOf}
+use Rattle.designs.specs.Leaves.{Read, refused, headFault, leafOf}
 use Rattle.designs.specs.Designs.{membersIn, joinedAt, recordAt, designOf}
 use Rattle.designs.proofs.Heads.{Whole, headed, length-behind, record-refused, record-headed, body-series, body-beside, body-leaf}
 use Rattle.leaves.specs.declared.Judged.{Judged}
@@ -29,8 +29,8 @@ abbrev pub bodyIn : List ℕ → ℕ → List ℕ
 bodyIn s size = take (size - 4) (drop 4 s)
 
 module _ (left : ℕ) (outermost : Bool) (s : List ℕ) {number : ℕ} (head : number ≡ headNo left outermost s) where
-  pub turned-away : (at : ℕ) → (number ≡ 0 → ⊥) → recordAt left outermost at s ≡ refused (fault at number)
-  turned-away at n = record-refused left outermost at s (λ z. n (head ∙ z)) ∙ ap (λ (k : ℕ). refused (fault at k)) (sym head)
+  pub turned-away : (at : ℕ) → (number ≡ 0 → ⊥) → recordAt left outermost at s ≡ refused (headFault at number (length s))
+  turned-away at n = record-refused left outermost at s (λ z. n (head ∙ z)) ∙ ap (λ (k : ℕ). refused (headFault at k (length s))) (sym head)
 
   module _ (clear : number ≡ 0) where
     none : headNo left outermost s ≡ 0
@@ -79,7 +79,7 @@ length-rest : (s : List ℕ) (i : ℕ) → length (rest s i) ≡ length s - i
 length-rest s i = ap length (rest-is s i) ∙ length-drop i s
 
 module _ (left : ℕ) (s : List ℕ) (i : ℕ) where
-  pub rest-refused : (at : ℕ) {number : ℕ} → number ≡ headNo left false (rest s i) → (number ≡ 0 → ⊥) → recordAt left false at (drop i s) ≡ refused (fault at number)
+  pub rest-refused : (at : ℕ) {number : ℕ} → number ≡ headNo left false (rest s i) → (number ≡ 0 → ⊥) → recordAt left false at (drop i s) ≡ refused (headFault at number (length (rest s i)))
   rest-refused at h n = ap (recordAt left false at) (sym (rest-is s i)) ∙ turned-away left false (rest s i) h at n
 
   pub rest-read : (at : ℕ) {row col : ℕ} {g g′ : List ℕ} {r : Judged} → ReadInto (recordAt left false at (rest s i)) row col g g′ r → ReadInto (recordAt left false at (drop i s)) row col g g′ r
@@ -112,6 +112,6 @@ module _ (s : List ℕ) where
   unfolding designOf
   outer-read o = o
 
-  pub outer-refused : {number : ℕ} → number ≡ headNo 8 true s → (number ≡ 0 → ⊥) → (g : List ℕ) {r : Judged} → r ≡ Refused (fault 0 number) → ReadInto (designOf s) 0 0 g g r
+  pub outer-refused : {number : ℕ} → number ≡ headNo 8 true s → (number ≡ 0 → ⊥) → (g : List ℕ) {r : Judged} → r ≡ Refused (headFault 0 number (length s)) → ReadInto (designOf s) 0 0 g g r
   outer-refused {number} h n g {r} e =
-      outer-read (read-as (sym (turned-away 8 true s h 0 n)) (read-refused 0 0 (fault 0 number) g g r (kept-same 0 0 g) e))
+      outer-read (read-as (sym (turned-away 8 true s h 0 n)) (read-refused 0 0 (headFault 0 number (length s)) g g r (kept-same 0 0 g) e))

@@ -42,7 +42,7 @@ module _ (s before : List ℕ) (p : Panel) (made-is : designOf s ≡ made p) whe
 
   whole-read : (g after : List ℕ) (r : Answer) → roomNo (p .width) (p .depth) (length before) ≡ 0 → Holds g 0 0 p
       → after ≡ rows (byteAt g) (p .width) (p .depth + 1) ++ drop ((p .depth + 1) * p .width) before
-      → r ≡ record { refusal = 0; offset = 0; width = p .width; depth = p .depth; filled = (p .depth + 1) * p .width } → DesignRead s before after r
+      → r ≡ record { refusal = 0; offset = 0; present = 0; width = p .width; depth = p .depth; filled = (p .depth + 1) * p .width } → DesignRead s before after r
   unfolding answerOf sheetAfter feedSheet
   whole-read g after r room holds put a =
       let same : rows (byteAt g) (p .width) (p .depth + 1) ≡ rows (p .place) (p .width) (p .depth + 1)
@@ -69,7 +69,7 @@ module _ (s : List ℕ) {before grid : List ℕ} {q : Size} (o : ReadInto (desig
 
   pub was-read : (sheet : List ℕ) {number : ℕ} → number ≡ roomNo (q .width) (q .depth) (length sheet) → number ≡ 0 → {next : List ℕ}
       → next ≡ rows (byteAt grid) (q .width) (q .depth + 1) ++ drop ((q .depth + 1) * q .width) sheet → {r : Answer}
-      → r ≡ record { refusal = 0; offset = 0; width = q .width; depth = q .depth; filled = (q .depth + 1) * q .width } → DesignRead s sheet next r
+      → r ≡ record { refusal = 0; offset = 0; present = 0; width = q .width; depth = q .depth; filled = (q .depth + 1) * q .width } → DesignRead s sheet next r
   was-read sheet {number} n z {next} put {r} e =
       let p = panel .panel in
       let f = design-fair s p (panel .is) in

@@ -12,9 +12,9 @@ use Rattle.designs.specs.Leaves.{Read, refused, made, fault}
 use Rattle.designs.specs.Designs.{designOf}
 use Rattle.panels.specs.declared.Answer.{Answer}
 
--- a refusal gives its number and the offset of the record; other results are 0
+-- a refusal gives its number, the offset of the record and how many bytes of it are present; other results are 0
 abbrev pub refusalOf : Fault → Answer
-refusalOf x = record { refusal = x .refusal; offset = x .offset; width = 0; depth = 0; filled = 0 }
+refusalOf x = record { refusal = x .refusal; offset = x .offset; present = x .present; width = 0; depth = 0; filled = 0 }
 
 -- 3 sheet shorter than the feed sheet, last of all; it is no record's
 unfoldable pub roomNo : ℕ → ℕ → ℕ → ℕ
@@ -24,7 +24,7 @@ unfoldable pub answerOf : Read → ℕ → Answer
 answerOf (refused x) room = refusalOf x
 answerOf (made p) room =
     cond (eqb (roomNo (p .width) (p .depth) room) 0)
-    (record { refusal = 0; offset = 0; width = p .width; depth = p .depth; filled = feedLength p })
+    (record { refusal = 0; offset = 0; present = 0; width = p .width; depth = p .depth; filled = feedLength p })
     (refusalOf (fault 0 (roomNo (p .width) (p .depth) room)))
 
 unfoldable pub sheetAfter : Read → List ℕ → List ℕ

@@ -19,15 +19,16 @@ use leaves::Size;
 use leaves::grid::link;
 use leaves::grid::row_at;
 use leaves::leaf;
-use leaves::refused;
+use leaves::refused_head;
 use leaves::told_at;
 use records::field_of_two;
 
-// What reading a design answers: the refusal number, 0 where it was carried out, and the offset of the record refused; the
-// width and the depth of the panel; and how many bytes of the feed sheet were filled.
+// What reading a design answers: the refusal number, 0 where it was carried out, the offset of the record refused, and how many bytes
+// of it are present where it is cut; the width and the depth of the panel; and how many bytes of the feed sheet were filled.
 pub struct Answer {
     pub refusal: u8,
     pub offset: usize,
+    pub present: usize,
     pub width: u16,
     pub depth: u16,
     pub filled: usize,
@@ -114,7 +115,7 @@ fn series_reader(
         let here = at + 4 + i;
         let number = head_refusal(rest, left, false);
         if number != 0 {
-            return refused(number, here);
+            return refused_head(number, here, rest.len());
         }
         let kind = field_of_two(rest, 2);
         let size = field_of_two(rest, 0) as usize;
@@ -157,7 +158,7 @@ fn beside_reader(
         let here = at + 4 + i;
         let number = head_refusal(rest, left, false);
         if number != 0 {
-            return refused(number, here);
+            return refused_head(number, here, rest.len());
         }
         let kind = field_of_two(rest, 2);
         let size = field_of_two(rest, 0) as usize;
@@ -186,7 +187,7 @@ fn outermost(design: &[u8], grid: &mut [u8; 2368]) -> Judged
 {
     let number = head_refusal(design, 8, true);
     if number != 0 {
-        return refused(number, 0);
+        return refused_head(number, 0, design.len());
     }
     let kind = field_of_two(design, 2);
     let size = field_of_two(design, 0) as usize;
@@ -224,12 +225,13 @@ fn room_refusal(size: Size, room: usize) -> u8
     0
 }
 
-fn refusal(number: u8, offset: usize) -> Answer
-    ensures { λ r. ⌜ r ≡ record { refusal = number; offset = offset; width = 0; depth = 0; filled = 0 } ⌝ }
+fn refusal(number: u8, offset: usize, present: usize) -> Answer
+    ensures { λ r. ⌜ r ≡ record { refusal = number; offset = offset; present = present; width = 0; depth = 0; filled = 0 } ⌝ }
 {
     Answer {
         refusal: number,
         offset,
+        present,
         width: 0,
         depth: 0,
         filled: 0,
@@ -242,12 +244,12 @@ pub fn read(design: &[u8], sheet: &mut [u8]) -> Answer
 {
     let mut grid = [0u8; 2368];
     let size = match outermost(design, &mut grid) {
-        Judged::Refused(x) => return refusal(x.refusal, x.offset),
+        Judged::Refused(x) => return refusal(x.refusal, x.offset, x.present),
         Judged::Made(size) => size,
     };
     let number = room_refusal(size, sheet.len());
     if number != 0 {
-        return refusal(number, 0);
+        return refusal(number, 0, 0);
     }
     let width = size.width;
     let depth = size.depth;
@@ -256,6 +258,7 @@ pub fn read(design: &[u8], sheet: &mut [u8]) -> Answer
     Answer {
         refusal: 0,
         offset: 0,
+        present: 0,
         width: width as u16,
         depth: depth as u16,
         filled: count * width,

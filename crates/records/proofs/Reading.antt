@@ -48,14 +48,14 @@ pub record Gotten (reports : Bool) (s : List ℕ) (r : Record) (n : ℕ) : Type 
   pub item : r ≡ recordIn (kindIn s) s
   pub size : n ≡ lengthOf (kindIn s)
 
-got-only : (b : Bool) (q r : Record) (m n k : ℕ) → cond b (Got q m) (Refused k) ≡ Got r n → (b ≡ true) × ((r ≡ q) × (n ≡ m))
-got-only true q r m n k h = (refl, (cc, cc))
-got-only false q r m n k h = let z : _≡_ {A = ℕ} 0 1 = cc in absurd (omega arith)
+got-only : (b : Bool) (q r : Record) (m n k p : ℕ) → cond b (Got q m) (Refused k p) ≡ Got r n → (b ≡ true) × ((r ≡ q) × (n ≡ m))
+got-only true q r m n k p h = (refl, (cc, cc))
+got-only false q r m n k p h = let z : _≡_ {A = ℕ} 0 1 = cc in absurd (omega arith)
 
 pub read→gotten : (reports : Bool) (s : List ℕ) (r : Record) (n : ℕ) → readOf reports s ≡ Got r n → Gotten reports s r n
 unfolding readOf
 read→gotten reports s r n h =
-    let g = got-only (eqb (readNo reports s) 0) _ _ _ _ _ h in
+    let g = got-only (eqb (readNo reports s) 0) _ _ _ _ _ _ h in
     record { whole = unrefused→whole reports s (eqb-true _ _ (g .0)); item = g .1 .0; size = g .1 .1 }
 
 -- ---- what holds of each kind

@@ -34,17 +34,23 @@ recordIn k s =
     (cond (eqb k 4) (Close (field 4 s 4))
     (Number (field 2 s 4) (field 2 s 6) (field 4 s 8)))))
 
--- ---- reading: 11 for the head (no bytes counts too); 13 kind unknown; 12 length not that of the kind; 11 for the body
+-- ---- reading: 11 a cut head (no bytes counts too); 13 kind unknown; 12 length not that of the kind; 23 a cut body
 unfoldable pub readNo : Bool → List ℕ → ℕ
 readNo reports s =
     firstOf
     ((ltb (length s) 4 ⟶ 11)
     ∷ (not (known reports (kindIn s)) ⟶ 13)
     ∷ (not (eqb (lengthIn s) (lengthOf (kindIn s))) ⟶ 12)
-    ∷ (ltb (length s) (lengthOf (kindIn s)) ⟶ 11)
+    ∷ (ltb (length s) (lengthOf (kindIn s)) ⟶ 23)
     ∷ [])
+
+-- How many bytes of a refused record are present, with n bytes from its first to the end: all n of a record that is cut, 11 or 23.
+-- Any other refusal counts none.
+unfoldable pub presentOf : ℕ → ℕ → ℕ
+presentOf number n = cond (eqb number 11 || eqb number 23) n 0
 
 -- the record and its length, or the refusal
 unfoldable pub readOf : Bool → List ℕ → Read
 readOf reports s =
-    cond (eqb (readNo reports s) 0) (Got (recordIn (kindIn s) s) (lengthOf (kindIn s))) (Refused (readNo reports s))
+    let number = readNo reports s in
+    cond (eqb number 0) (Got (recordIn (kindIn s) s) (lengthOf (kindIn s))) (Refused number (presentOf number (length s)))

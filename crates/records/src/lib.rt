@@ -5,7 +5,7 @@ ghost use mathlib.Core.List.{_++_};
 ghost use Prim.Native.Nat.{_+_, _≤_};
 ghost use lib.ListN.{length, getD};
 ghost use Rattle.records.specs.Fields.{field, bytesIn, placed};
-ghost use Rattle.records.specs.Reading.{lengthOf, recordIn, readNo, readOf};
+ghost use Rattle.records.specs.Reading.{lengthOf, recordIn, readNo, presentOf, readOf};
 ghost use Rattle.records.specs.Writing.{kindOf, fieldsOf, sizeOf, bytesOf, Writes};
 use order::Filled;
 
@@ -20,8 +20,8 @@ pub enum Record {
 pub enum Read {
     // The record, and its length.
     Got(Record, usize),
-    // The number of the refusal.
-    Refused(u8),
+    // The number of the refusal, and how many bytes of the record are present where it is cut, else 0.
+    Refused { number: u8, present: usize },
 }
 
 // The byte at a place, 0 past the end.
@@ -103,6 +103,7 @@ fn refusal(bytes: &[u8], reports: bool) -> u8
     let kind = field_of_two(bytes, 2);
     let size = length_of(kind);
     let told = field_of_two(bytes, 0);
+    let long = size as usize;
     if bytes.len() < 4 {
         return 11;
     }
@@ -112,10 +113,21 @@ fn refusal(bytes: &[u8], reports: bool) -> u8
     if told != size {
         return 12;
     }
-    if bytes.len() < size as usize {
-        return 11;
+    if bytes.len() < long {
+        return 23;
     }
     0
+}
+
+// How many bytes of a refused record are present, with n from its first to the end: n where it is cut, else 0.
+pub fn present_of(number: u8, n: usize) -> usize
+    ensures { λ r. ⌜ r ≡ presentOf number n ⌝ }
+{
+    if (number == 11) | (number == 23) {
+        n
+    } else {
+        0
+    }
 }
 
 fn read_among(bytes: &[u8], reports: bool) -> Read
@@ -123,12 +135,13 @@ fn read_among(bytes: &[u8], reports: bool) -> Read
 {
     let number = refusal(bytes, reports);
     if number != 0 {
-        return Read::Refused(number);
+        let present = present_of(number, bytes.len());
+        return Read::Refused { number, present };
     }
     let kind = field_of_two(bytes, 2);
     let item = record_in(kind, bytes);
-    let size = length_of(kind);
-    Read::Got(item, size as usize)
+    let size = length_of(kind) as usize;
+    Read::Got(item, size)
 }
 
 // The record in front of the bytes, of any kind.

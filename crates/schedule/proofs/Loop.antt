@@ -30,7 +30,7 @@ use Rattle.outcome.proofs.Room.{inside-fresh, paid-step}
 use Rattle.schedule.specs.declared.Stage.{Stage}
 use Rattle.schedule.specs.declared.Served.{Served}
 use Rattle.schedule.specs.Serving.{courseIn, RoomFor, Serves, Servable}
-use Rattle.schedule.specs.Pass.{numberOf, Passable, PassIs}
+use Rattle.schedule.specs.Pass.{unreadAt, Passable, PassIs}
 use Rattle.schedule.proofs.Reports.{over-next, length-over}
 
 -- ---- what holds at the loop's head: record n at the offset `at`, the schedule at g over the arrays a, and the bytes before the
@@ -90,10 +90,10 @@ module _ {s out₀ out : List ℕ} {g : Stage} {a : Lent} {at n : ℕ} (h : Goin
   same-length : length out ≡ length out₀
   same-length = ap length (h .wrote) ∙ length-over (h .done) out₀ (omega (arith, h .paid, h .within, h .passable .room))
 
-  ends : {out′ : List ℕ} → length out′ ≡ length out₀ → (k : ℕ) → Rest s (courseIn g a) at n (h .done) few ≡ stopped k n at
-      → Ended s out₀ (Refused k n at) out′
-  ends l k e =
-      let told : stopped k n at ≡ tell s = sym e ∙ h .same in
+  ends : {out′ : List ℕ} → length out′ ≡ length out₀ → (k present : ℕ) → Rest s (courseIn g a) at n (h .done) few ≡ stopped k n at present
+      → Ended s out₀ (Refused k n at present) out′
+  ends l k present e =
+      let told : stopped k n at present ≡ tell s = sym e ∙ h .same in
       record {
         leaves = record {
           outcome = ap (λ (t : Told). t .outcome) told;
@@ -102,14 +102,14 @@ module _ {s out₀ out : List ℕ} {g : Stage} {a : Lent} {at n : ℕ} (h : Goin
         same-length = l;
       }
 
-  pub ends-late : g .phase ≡ 2 → at < length s → Ended s out₀ (Refused 14 n at) out
-  ends-late closed l = ends same-length 14 (rest-late s (courseIn g a) at n (h .done) few closed l)
+  pub ends-late : g .phase ≡ 2 → at < length s → Ended s out₀ (Refused 14 n at 0) out
+  ends-late closed l = ends same-length 14 0 (rest-late s (courseIn g a) at n (h .done) few closed l)
 
-  pub ends-unread : (g .phase ≡ 2 → ⊥) → {q : Read} {k number : ℕ} → q ≡ recordAt s at → q ≡ Unread k → number ≡ numberOf q
-      → Ended s out₀ (Refused number n at) out
-  unfolding numberOf
-  ends-unread running {k = k} e f said =
-      rw (said ∙ ap numberOf f) (ends same-length k (rest-unread s (courseIn g a) at n (h .done) few running k (sym e ∙ f)))
+  pub ends-unread : (g .phase ≡ 2 → ⊥) → {q : Read} {k present : ℕ} → q ≡ recordAt s at → q ≡ Unread k present
+      → Ended s out₀ (unreadAt q n at) out
+  unfolding unreadAt
+  ends-unread running {k = k} {present = present} e f =
+      rw f (ends same-length k present (rest-unread s (courseIn g a) at n (h .done) few running k present (sym e ∙ f)))
 
   pub ends-whole : g .phase ≡ 2 → length s ≤ at
       → Ended s out₀ (Accepted (g .frame .width) (g .frame .construction) (g .frame .entered) (g .filled)) out
@@ -192,10 +192,10 @@ module _ (c : Spot) where
     length-after : length out′ ≡ length (c .out₀)
     length-after = ap length wrote ∙ length-over all-done (c .out₀) (omega (arith, length-done, room .enough, same-length (c .going)))
 
-    pub ends-refused : (r .number ≡ 0 → ⊥) → Ended (c .s) (c .out₀) (Refused (r .number) (c .n) (c .at)) out′
+    pub ends-refused : (r .number ≡ 0 → ⊥) → Ended (c .s) (c .out₀) (Refused (r .number) (c .n) (c .at) 0) out′
     ends-refused fault =
         rw (d .number)
-        (ends (c .going) length-after (given .refusal)
+        (ends (c .going) length-after (given .refusal) 0
         (rest-refused (c .s) now (c .at) (c .n) (c .going .done) (few (c .going)) (c .len) given stepped (λ e. fault (d .number ∙ e))))
 
     pub goes-on : r .number ≡ 0 → Going (c .s) (c .out₀) out′ (r .stage) a′ (c .at + c .len) (c .n + 1)

@@ -30,25 +30,25 @@ module _ {s buffer buffer′ : List ℕ} {r : Outcome} (p : PassIs s buffer r bu
 
 -- ---- the ways out
 module _ {s out : List ℕ} where
-  ran-refused : (k n at : ℕ) → Refused k n at ≡ runOf s (length out) → Ran s out (Refused k n at) out
+  ran-refused : (k n at present : ℕ) → Refused k n at present ≡ runOf s (length out) → Ran s out (Refused k n at present) out
   unfolding outputOf afterRun
-  ran-refused k n at e = record { outcome = e; output = rw (← e) }
+  ran-refused k n at present e = record { outcome = e; output = rw (← e) }
 
-  pub ran-long : 65536 < length s → Ran s out (Refused 16 0 0) out
+  pub ran-long : 65536 < length s → Ran s out (Refused 16 0 0 0) out
   unfolding runOf
-  ran-long h = ran-refused 16 0 0 (rw (lt-ltb _ _ h))
+  ran-long h = ran-refused 16 0 0 0 (rw (lt-ltb _ _ h))
 
   module _ (short : length s ≤ 65536) {buffer buffer′ : List ℕ} {r : Outcome} (p : PassIs s buffer r buffer′) where
-    pub ran-fault : {k n at : ℕ} → r ≡ Refused k n at → Ran s out r out
+    pub ran-fault : {k n at present : ℕ} → r ≡ Refused k n at present → Ran s out r out
     unfolding runOf settle
-    ran-fault {k} {n} {at} e =
-        let told : tell s .outcome ≡ Refused k n at = sym (p .outcome) ∙ e in
-        rw e (ran-refused k n at (rw (le-ltb _ _ short, told)))
+    ran-fault {k} {n} {at} {present} e =
+        let told : tell s .outcome ≡ Refused k n at present = sym (p .outcome) ∙ e in
+        rw e (ran-refused k n at present (rw (le-ltb _ _ short, told)))
 
     module _ {w c e b : ℕ} (accepts : r ≡ Accepted w c e b) where
-      pub ran-narrow : length out < b → Ran s out (Refused 17 0 0) out
+      pub ran-narrow : length out < b → Ran s out (Refused 17 0 0 0) out
       unfolding runOf settle
-      ran-narrow h = ran-refused 17 0 0 (rw (le-ltb _ _ short, told p accepts, lt-leb _ _ h))
+      ran-narrow h = ran-refused 17 0 0 0 (rw (le-ltb _ _ short, told p accepts, lt-leb _ _ h))
 
       pub ran-whole : b ≤ length out → {out′ : List ℕ} → out′ ≡ take b buffer′ ++ drop b out → Ran s out (Accepted w c e b) out′
       unfolding runOf settle outputOf afterRun

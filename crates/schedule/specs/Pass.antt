@@ -8,13 +8,13 @@ use Rattle.records.specs.declared.Read.{Read}
 use Rattle.records.specs.declared.Read.the-variants.{Got, Refused as Unread}
 use Rattle.order.specs.Order.{over}
 use Rattle.outcome.specs.declared.Outcome.{Outcome}
-use Rattle.outcome.specs.declared.Outcome.the-variants.{Accepted}
+use Rattle.outcome.specs.declared.Outcome.the-variants.{Accepted, Refused}
 use Rattle.outcome.specs.Schedule.{tell}
 
--- the number of a read, 0 where a record was read
-unfoldable pub numberOf : Read → ℕ
-numberOf (Got r len) = 0
-numberOf (Unread k) = k
+-- the outcome where record n at an offset is not read; it is never asked of one that is
+unfoldable pub unreadAt : Read → ℕ → ℕ → Outcome
+unreadAt (Got r len) n at = Refused 0 n at 0
+unreadAt (Unread k present) n at = Refused k n at present
 
 -- the reports of a schedule are never longer than it
 pub record Passable (s out : List ℕ) : Type 0 where

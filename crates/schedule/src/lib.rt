@@ -14,7 +14,7 @@ ghost use Rattle.outcome.specs.Step.{reportOf, closeNo, phaseNo, placeNo, stepO
 ghost use Rattle.outcome.specs.Schedule.{recordAt};
 ghost use Rattle.outcome.specs.Whole.{Ran};
 ghost use Rattle.schedule.specs.Serving.{courseIn, RoomFor, Noted, Serves, Servable, ServesOpen, ServesEnter, TurnServable, ServesTurn, ServesClose};
-ghost use Rattle.schedule.specs.Pass.{numberOf, Passable, PassIs};
+ghost use Rattle.schedule.specs.Pass.{unreadAt, Passable, PassIs};
 use board::CELLS;
 use board::EXITS;
 use board::TOKENS;
@@ -259,13 +259,15 @@ fn serve(
 }
 
 // ---- outcomes
+// A refusal of a record that is not cut, or of no record.
 fn refused(number: u8, record: usize, offset: usize) -> Outcome
-    ensures { λ r. ⌜ r ≡ Refused number «record» offset ⌝ }
+    ensures { λ r. ⌜ r ≡ Refused number «record» offset 0 ⌝ }
 {
     Outcome::Refused {
         number,
         record,
         offset,
+        present: 0,
     }
 }
 
@@ -287,7 +289,10 @@ fn read_any(bytes: &[u8], at: usize) -> Read
     ensures { λ r. ⌜ r ≡ recordAt (now (bytes .entry)) at ⌝ }
 {
     if bytes.len() <= at {
-        return Read::Refused(14);
+        return Read::Refused {
+            number: 14,
+            present: 0,
+        };
     }
     records::read_in_schedule(&bytes[at..])
 }
@@ -311,13 +316,18 @@ fn read_at(bytes: &[u8], at: usize) -> Read
     Read::Got(item, 6)
 }
 
-// The number of a read, 0 where a record was read.
-fn number_of(read: Read) -> u8
-    ensures { λ r. ⌜ r ≡ numberOf read ⌝ }
+// The outcome where a record is not read. It is asked of such a read alone.
+fn unread(read: Read, record: usize, offset: usize) -> Outcome
+    ensures { λ r. ⌜ r ≡ unreadAt read «record» offset ⌝ }
 {
     match read {
-        Read::Got(_, _) => 0,
-        Read::Refused(number) => number,
+        Read::Got(_, _) => refused(0, record, offset),
+        Read::Refused { number, present } => Outcome::Refused {
+            number,
+            record,
+            offset,
+            present,
+        },
     }
 }
 
@@ -343,7 +353,7 @@ fn pass(bytes: &[u8], out: &mut [u8]) -> Outcome
     while stage.phase != 2 {
         let read = read_at(bytes, at);
         let Read::Got(item, len) = read else {
-            return refused(number_of(read), record, at);
+            return unread(read, record, at);
         };
         let served = serve(
             stage,

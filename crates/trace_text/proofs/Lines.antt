@@ -41,10 +41,10 @@ module _ (s : List ℕ) (x : Run) (at : ℕ) where
   unfolding linesFrom onRecord
   lines-more more r len e = rw e
 
-  lines-end : (more k : ℕ) → recordAt s at ≡ Unread k → linesFrom more s x at ≡ []
+  lines-end : (more k present : ℕ) → recordAt s at ≡ Unread k present → linesFrom more s x at ≡ []
   unfolding linesFrom onRecord
-  lines-end zero k e = refl
-  lines-end (suc more) k e = rw e
+  lines-end zero k present e = refl
+  lines-end (suc more) k present e = rw e
 
 -- ---- the most bytes
 length-passed : (t L c s v : ℕ) → length (passedLine t L c s v) ≤ 128
@@ -77,7 +77,7 @@ unfolding onRecord
 length-read s x at rest few h (Got r len) e =
     let a = at-record e in
     rw length-append (omega (arith, length-line x r, a .onward, few r len (a .within)))
-length-read s x at rest few h (Unread k) e = omega arith
+length-read s x at rest few h (Unread k present) e = omega arith
 
 pub length-lines : (more : ℕ) (s : List ℕ) (x : Run) (at : ℕ) → at ≤ length s → length (linesFrom more s x at) + 22 * at ≤ 22 * length s
 unfolding linesFrom
@@ -98,8 +98,8 @@ begins s at out x e =
     record { more = length s; enough = omega arith; within = omega arith; leads = rw e (leads-all (turnLines s) at out) }
 
 module _ {s out₀ out : List ℕ} {x : Run} {at next from : ℕ} (g : Going s at out₀ x next from out) where
-  pub ends-unread : {q : Read} {k : ℕ} → q ≡ recordAt s from → q ≡ Unread k → Puts (turnLines s) at out₀ next out
-  ends-unread {k = k} e f = leads-none (rw (lines-end s x from (g .more) k (sym e ∙ f)) at (g .leads))
+  pub ends-unread : {q : Read} {k present : ℕ} → q ≡ recordAt s from → q ≡ Unread k present → Puts (turnLines s) at out₀ next out
+  ends-unread {k = k} {present = present} e f = leads-none (rw (lines-end s x from (g .more) k present (sym e ∙ f)) at (g .leads))
 
   pub ends-whole : length s ≤ from → Puts (turnLines s) at out₀ next out
   ends-whole h = ends-unread (record-none s from h) refl

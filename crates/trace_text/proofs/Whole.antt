@@ -25,7 +25,7 @@ unfolding textOf acceptedText
 text-most (Accepted w c e b) s few =
     let short = few w c e b refl in
     simp length-append (omega (arith, length-turns s, length-network w c, length-rest e))
-text-most (Refused k n at) s few = omega (arith, length-refused k n at)
+text-most (Refused k n at present) s few = omega (arith, length-refused k n at)
 
 pub trace-most : (s : List ℕ) → length (traceOf s) ≤ 1500000
 unfolding traceOf

@@ -50,7 +50,7 @@ lineOf x (Number t v n) = []
 
 unfoldable pub onRecord : Read → (Record → ℕ → List ℕ) → List ℕ
 onRecord (Got r len) f = f r len
-onRecord (Unread k) f = []
+onRecord (Unread k present) f = []
 
 -- From the record at an offset on, with the run x: its line, and the lines behind it with the run that it leaves. The first argument
 -- bounds the records still to come; there are at most as many as bytes.

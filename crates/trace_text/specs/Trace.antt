@@ -14,7 +14,7 @@ acceptedText w c e s = networkLine w c ++ (turnLines s ++ restLine e)
 
 unfoldable pub textOf : Outcome → List ℕ → List ℕ
 textOf (Accepted w c e b) s = acceptedText w c e s
-textOf (Refused k n at) s = refusedLine k n at
+textOf (Refused k n at present) s = refusedLine k n at
 
 -- the schedule is judged whole first, with the room that the listing has
 unfoldable pub traceOf : List ℕ → List ℕ

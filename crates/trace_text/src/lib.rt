@@ -125,6 +125,7 @@ fn put_outcome(out: &mut [u8], outcome: Outcome, bytes: &[u8]) -> usize
             number,
             record,
             offset,
+            present: _,
         } => listing_text::put_refused(out, number as usize, record, offset),
     }
 }

@@ -28,7 +28,7 @@ use Rattle.leaves.proofs.grid.link.Reads as link-reads
 use Rattle.leaves.proofs.grid.row_at.Reads as row-at-reads
 use Rattle.designs.proofs.head_refusal.Reads as head-refusal-reads
 use Rattle.leaves.proofs.told_at.Reads as told-at-reads
-use Rattle.leaves.proofs.refused.Reads as refused-reads
+use Rattle.leaves.proofs.refused_head.Reads as refused-head-reads
 use Rattle.designs.proofs.size_refusal.Reads as size-refusal-reads
 use Rattle.panels.proofs.in_series.Reads as in-series-reads
 use Rattle.leaves.proofs.leaf.Reads as leaf-reads
@@ -70,7 +70,7 @@ module _ (t : ℕ) where
   series-reader-below = and 2 series-reader-kinds.ps (falls 2 series-reader-kinds.ps _<_ μ-series-reader t) series-reader.Pre
 
   abbrev beside-told : beside-reader-lts.Claims
-  beside-told = (nothing-reads.Asked, nothing-reads.Learnt, head-refusal-reads.Asked, head-refusal-reads.Learnt, refused-reads.Asked, refused-reads.Learnt, field-of-two-reads.Asked, field-of-two-reads.Learnt, series-reader-below, series-reader.Post, beside-reader-below, beside-reader.Post, leaf-reads.Asked, leaf-reads.Learnt, side-by-side-reads.Asked, side-by-side-reads.Learnt, size-refusal-reads.Asked, size-refusal-reads.Learnt, told-at-reads.Asked, told-at-reads.Learnt)
+  beside-told = (nothing-reads.Asked, nothing-reads.Learnt, head-refusal-reads.Asked, head-refusal-reads.Learnt, refused-head-reads.Asked, refused-head-reads.Learnt, field-of-two-reads.Asked, field-of-two-reads.Learnt, series-reader-below, series-reader.Post, beside-reader-below, beside-reader.Post, leaf-reads.Asked, leaf-reads.Learnt, side-by-side-reads.Asked, side-by-side-reads.Learnt, size-refusal-reads.Asked, size-refusal-reads.Learnt, told-at-reads.Asked, told-at-reads.Learnt)
 
   beside-inner : (c : beside-reader-lts.After-field-of-two2 beside-told beside-reader-at beside-reader.Post beside-reader-Inv-loop beside-reader-μ-loop) → Inner (c .before .before .before .before .before .before .before .before .before .args .left) (c .before .before .before .before .before .before .before .before .before .args .bytes .now) (c .before .before .before .before .before .before .loop .i) (c .field-of-two2 .result) (bodyIn (rest (c .before .before .before .before .before .before .before .before .before .args .bytes .now) (c .before .before .before .before .before .before .loop .i)) (c .field-of-two2 .result))
   beside-inner c = inner (c .before .before .before .before .before .before .before .before .before .args .left) (c .before .before .before .before .before .before .before .before .before .args .bytes .now) (c .before .before .before .before .before .before .loop .i) (c .before .before .before .head-refusal .ensures) (c .before .before .if1 .left) (c .before .field-of-two .ensures) (c .field-of-two2 .ensures)
@@ -117,11 +117,11 @@ module _ (t : ℕ) where
   beside-reader-head-refusal-requires : beside-reader-lts.Need-head-refusal-requires beside-told beside-reader-at beside-reader.Post beside-reader-Inv-loop beside-reader-μ-loop
   beside-reader-head-refusal-requires c κs = search needs
 
-  beside-reader-refused-requires : beside-reader-lts.Need-refused-requires beside-told beside-reader-at beside-reader.Post beside-reader-Inv-loop beside-reader-μ-loop
-  beside-reader-refused-requires c κs = search needs
+  beside-reader-refused-head-requires : beside-reader-lts.Need-refused-head-requires beside-told beside-reader-at beside-reader.Post beside-reader-Inv-loop beside-reader-μ-loop
+  beside-reader-refused-head-requires c κs = search needs
 
   beside-reader-returns : beside-reader-lts.Need-returns beside-told beside-reader-at beside-reader.Post beside-reader-Inv-loop beside-reader-μ-loop
-  beside-reader-returns c = stopped-at (c .before .before .before .before .before .loop .inv) (c .before .before .before .before .loop-test .taken) (rest-refused (c .before .before .before .before .before .before .before .before .args .left) (c .before .before .before .before .before .before .before .before .args .bytes .now) (c .before .before .before .before .before .loop .i) _ (c .before .before .head-refusal .ensures) (c .before .if1 .taken)) (c .before .before .before .before .before .loop .inv .kept) (c .refused .ensures)
+  beside-reader-returns c = stopped-at (c .before .before .before .before .before .loop .inv) (c .before .before .before .before .loop-test .taken) (rest-refused (c .before .before .before .before .before .before .before .before .args .left) (c .before .before .before .before .before .before .before .before .args .bytes .now) (c .before .before .before .before .before .loop .i) _ (c .before .before .head-refusal .ensures) (c .before .if1 .taken)) (c .before .before .before .before .before .loop .inv .kept) (c .refused-head .ensures)
 
   beside-reader-field-of-two-requires : beside-reader-lts.Need-field-of-two-requires beside-told beside-reader-at beside-reader.Post beside-reader-Inv-loop beside-reader-μ-loop
   beside-reader-field-of-two-requires c κs = search needs
@@ -187,7 +187,7 @@ module _ (t : ℕ) where
   beside-reader-returns-3 c = ended (c .before .before .before .before .loop .inv) (c .before .before .before .loop-test .left) (c .before .size-refusal .ensures) (c .told-at .ensures)
 
   abbrev series-told : series-reader-lts.Claims
-  series-told = (nothing-reads.Asked, nothing-reads.Learnt, head-refusal-reads.Asked, head-refusal-reads.Learnt, refused-reads.Asked, refused-reads.Learnt, field-of-two-reads.Asked, field-of-two-reads.Learnt, row-at-reads.Asked, row-at-reads.Learnt, series-reader-below, series-reader.Post, beside-reader-below, beside-reader.Post, leaf-reads.Asked, leaf-reads.Learnt, link-reads.Asked, link-reads.Learnt, in-series-reads.Asked, in-series-reads.Learnt, size-refusal-reads.Asked, size-refusal-reads.Learnt, told-at-reads.Asked, told-at-reads.Learnt)
+  series-told = (nothing-reads.Asked, nothing-reads.Learnt, head-refusal-reads.Asked, head-refusal-reads.Learnt, refused-head-reads.Asked, refused-head-reads.Learnt, field-of-two-reads.Asked, field-of-two-reads.Learnt, row-at-reads.Asked, row-at-reads.Learnt, series-reader-below, series-reader.Post, beside-reader-below, beside-reader.Post, leaf-reads.Asked, leaf-reads.Learnt, link-reads.Asked, link-reads.Learnt, in-series-reads.Asked, in-series-reads.Learnt, size-refusal-reads.Asked, size-refusal-reads.Learnt, told-at-reads.Asked, told-at-reads.Learnt)
 
   series-inner : (c : series-reader-lts.After-field-of-two2 series-told series-reader-at series-reader.Post series-reader-Inv-loop series-reader-μ-loop) → Inner (c .before .before .before .before .before .before .before .before .before .args .left) (c .before .before .before .before .before .before .before .before .before .args .bytes .now) (c .before .before .before .before .before .before .loop .i) (c .field-of-two2 .result) (bodyIn (rest (c .before .before .before .before .before .before .before .before .before .args .bytes .now) (c .before .before .before .before .before .before .loop .i)) (c .field-of-two2 .result))
   series-inner c = inner (c .before .before .before .before .before .before .before .before .before .args .left) (c .before .before .before .before .before .before .before .before .before .args .bytes .now) (c .before .before .before .before .before .before .loop .i) (c .before .before .before .head-refusal .ensures) (c .before .before .if1 .left) (c .before .field-of-two .ensures) (c .field-of-two2 .ensures)
@@ -234,11 +234,11 @@ module _ (t : ℕ) where
   series-reader-head-refusal-requires : series-reader-lts.Need-head-refusal-requires series-told series-reader-at series-reader.Post series-reader-Inv-loop series-reader-μ-loop
   series-reader-head-refusal-requires c κs = search needs
 
-  series-reader-refused-requires : series-reader-lts.Need-refused-requires series-told series-reader-at series-reader.Post series-reader-Inv-loop series-reader-μ-loop
-  series-reader-refused-requires c κs = search needs
+  series-reader-refused-head-requires : series-reader-lts.Need-refused-head-requires series-told series-reader-at series-reader.Post series-reader-Inv-loop series-reader-μ-loop
+  series-reader-refused-head-requires c κs = search needs
 
   series-reader-returns : series-reader-lts.Need-returns series-told series-reader-at series-reader.Post series-reader-Inv-loop series-reader-μ-loop
-  series-reader-returns c = stopped-at (c .before .before .before .before .before .loop .inv) (c .before .before .before .before .loop-test .taken) (rest-refused (c .before .before .before .before .before .before .before .before .args .left) (c .before .before .before .before .before .before .before .before .args .bytes .now) (c .before .before .before .before .before .loop .i) _ (c .before .before .head-refusal .ensures) (c .before .if1 .taken)) (c .before .before .before .before .before .loop .inv .kept) (c .refused .ensures)
+  series-reader-returns c = stopped-at (c .before .before .before .before .before .loop .inv) (c .before .before .before .before .loop-test .taken) (rest-refused (c .before .before .before .before .before .before .before .before .args .left) (c .before .before .before .before .before .before .before .before .args .bytes .now) (c .before .before .before .before .before .loop .i) _ (c .before .before .head-refusal .ensures) (c .before .if1 .taken)) (c .before .before .before .before .before .loop .inv .kept) (c .refused-head .ensures)
 
   series-reader-field-of-two-requires : series-reader-lts.Need-field-of-two-requires series-told series-reader-at series-reader.Post series-reader-Inv-loop series-reader-μ-loop
   series-reader-field-of-two-requires c κs = search needs
@@ -312,5 +312,5 @@ module _ (t : ℕ) where
 pub +beside-reader+series-reader-spec : {M : Type 1} → statement M
 +beside-reader+series-reader-spec =
     close μ-beside-reader μ-series-reader
-    (λ t. beside-reader-lts.spec (beside-told t) (beside-reader-at t) beside-reader.Post beside-reader-Inv-loop beside-reader-μ-loop (beside-reader-nothing-requires t) (beside-reader-loop-holds t) (beside-reader-sub-rest t) (beside-reader-part-rest-start t) (beside-reader-part-rest-end t) (beside-reader-add-here t) (beside-reader-add-here-2 t) (beside-reader-head-refusal-requires t) (beside-reader-refused-requires t) (beside-reader-returns t) (beside-reader-field-of-two-requires t) (beside-reader-field-of-two-requires-2 t) (beside-reader-cast-size t) (beside-reader-sub-body t) (beside-reader-part-body-start t) (beside-reader-part-body-end t) (beside-reader-sub-inside t) (beside-reader-add-behind t) (beside-reader-series-reader-requires t) (beside-reader-beside-reader-requires t) (beside-reader-leaf-requires t) (beside-reader-enum-known-got t) (beside-reader-enum-told t) (beside-reader-returns-2 t) (beside-reader-side-by-side-requires t) (beside-reader-add-i t) (beside-reader-loop-less t) (beside-reader-loop-again t) (beside-reader-size-refusal-requires t) (beside-reader-told-at-requires t) (beside-reader-returns-3 t))
-    (λ t. series-reader-lts.spec (series-told t) (series-reader-at t) series-reader.Post series-reader-Inv-loop series-reader-μ-loop (series-reader-nothing-requires t) (series-reader-loop-holds t) (series-reader-sub-rest t) (series-reader-part-rest-start t) (series-reader-part-rest-end t) (series-reader-add-here t) (series-reader-add-here-2 t) (series-reader-head-refusal-requires t) (series-reader-refused-requires t) (series-reader-returns t) (series-reader-field-of-two-requires t) (series-reader-field-of-two-requires-2 t) (series-reader-cast-size t) (series-reader-sub-body t) (series-reader-part-body-start t) (series-reader-part-body-end t) (series-reader-sub-inside t) (series-reader-add-below t) (series-reader-row-at-requires t) (series-reader-series-reader-requires t) (series-reader-beside-reader-requires t) (series-reader-leaf-requires t) (series-reader-enum-known-got t) (series-reader-enum-told t) (series-reader-returns-2 t) (series-reader-link-requires t) (series-reader-in-series-requires t) (series-reader-add-i t) (series-reader-loop-less t) (series-reader-loop-again t) (series-reader-size-refusal-requires t) (series-reader-told-at-requires t) (series-reader-returns-3 t))
+    (λ t. beside-reader-lts.spec (beside-told t) (beside-reader-at t) beside-reader.Post beside-reader-Inv-loop beside-reader-μ-loop (beside-reader-nothing-requires t) (beside-reader-loop-holds t) (beside-reader-sub-rest t) (beside-reader-part-rest-start t) (beside-reader-part-rest-end t) (beside-reader-add-here t) (beside-reader-add-here-2 t) (beside-reader-head-refusal-requires t) (beside-reader-refused-head-requires t) (beside-reader-returns t) (beside-reader-field-of-two-requires t) (beside-reader-field-of-two-requires-2 t) (beside-reader-cast-size t) (beside-reader-sub-body t) (beside-reader-part-body-start t) (beside-reader-part-body-end t) (beside-reader-sub-inside t) (beside-reader-add-behind t) (beside-reader-series-reader-requires t) (beside-reader-beside-reader-requires t) (beside-reader-leaf-requires t) (beside-reader-enum-known-got t) (beside-reader-enum-told t) (beside-reader-returns-2 t) (beside-reader-side-by-side-requires t) (beside-reader-add-i t) (beside-reader-loop-less t) (beside-reader-loop-again t) (beside-reader-size-refusal-requires t) (beside-reader-told-at-requires t) (beside-reader-returns-3 t))
+    (λ t. series-reader-lts.spec (series-told t) (series-reader-at t) series-reader.Post series-reader-Inv-loop series-reader-μ-loop (series-reader-nothing-requires t) (series-reader-loop-holds t) (series-reader-sub-rest t) (series-reader-part-rest-start t) (series-reader-part-rest-end t) (series-reader-add-here t) (series-reader-add-here-2 t) (series-reader-head-refusal-requires t) (series-reader-refused-head-requires t) (series-reader-returns t) (series-reader-field-of-two-requires t) (series-reader-field-of-two-requires-2 t) (series-reader-cast-size t) (series-reader-sub-body t) (series-reader-part-body-start t) (series-reader-part-body-end t) (series-reader-sub-inside t) (series-reader-add-below t) (series-reader-row-at-requires t) (series-reader-series-reader-requires t) (series-reader-beside-reader-requires t) (series-reader-leaf-requires t) (series-reader-enum-known-got t) (series-reader-enum-told t) (series-reader-returns-2 t) (series-reader-link-requires t) (series-reader-in-series-requires t) (series-reader-add-i t) (series-reader-loop-less t) (series-reader-loop-again t) (series-reader-size-refusal-requires t) (series-reader-told-at-requires t) (series-reader-returns-3 t))

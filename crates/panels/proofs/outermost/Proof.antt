@@ -10,11 +10,11 @@ use Rattle.panels.proofs.outermost.Tie as tie
 head-refusal-requires : tie.Need-head-refusal-requires
 head-refusal-requires c κs = search needs
 
-refused-requires : tie.Need-refused-requires
-refused-requires c κs = search needs
+refused-head-requires : tie.Need-refused-head-requires
+refused-head-requires c κs = search needs
 
 returns : tie.Need-returns
-returns c = outer-refused (c .before .before .before .before .args .design .now) (c .before .before .head-refusal .ensures) (c .before .if1 .taken) _ (c .refused .ensures)
+returns c = outer-refused (c .before .before .before .before .args .design .now) (c .before .before .head-refusal .ensures) (c .before .if1 .taken) _ (c .refused-head .ensures)
 
 field-of-two-requires : tie.Need-field-of-two-requires
 field-of-two-requires c κs = search needs
@@ -57,7 +57,7 @@ outermost-spec =
     tie.close
     (tie.spec
     head-refusal-requires
-    refused-requires
+    refused-head-requires
     returns
     field-of-two-requires
     field-of-two-requires-2

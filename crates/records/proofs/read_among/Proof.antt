@@ -8,9 +8,14 @@ use Rattle.records.proofs.read_among.Tie as tie
 refusal-requires : tie.Need-refusal-requires
 refusal-requires c κs = search needs
 
+present-of-requires : tie.Need-present-of-requires
+present-of-requires c κs = search needs
+
 returns : tie.Need-returns
 unfolding readOf
-returns c = rw (← c .before .refusal .ensures, ne-eqb _ 0 (c .if1 .taken))
+returns c =
+    let p = c .before in
+    rw (← p .before .refusal .ensures, ne-eqb _ 0 (p .if1 .taken), ← c .present-of .ensures)
 
 field-of-two-requires : tie.Need-field-of-two-requires
 field-of-two-requires c κs = search needs
@@ -21,8 +26,8 @@ record-in-requires c κs = search needs
 length-of-requires : tie.Need-length-of-requires
 length-of-requires c κs = search needs
 
-cast-t8 : tie.Need-cast-t8
-cast-t8 c = search needs
+cast-size : tie.Need-cast-size
+cast-size c = search needs
 
 returns-2 : tie.Need-returns-2
 unfolding readOf
@@ -33,9 +38,10 @@ read-among-spec =
     tie.close
     (tie.spec
     refusal-requires
+    present-of-requires
     returns
     field-of-two-requires
     record-in-requires
     length-of-requires
-    cast-t8
+    cast-size
     returns-2)

@@ -15,6 +15,9 @@ length-of-requires c κs = search needs
 field-of-two-requires-2 : tie.Need-field-of-two-requires-2
 field-of-two-requires-2 c κs = search needs
 
+cast-long : tie.Need-cast-long
+cast-long c = search needs
+
 returns : tie.Need-returns
 unfolding readNo known
 returns c =
@@ -32,9 +35,6 @@ unfolding readNo known
 returns-3 c =
     let p = c .before .before .before in
     rw (← p .before .before .field-of-two .ensures, ← p .field-of-two2 .ensures, ← p .before .length-of .ensures) (search order depth 12)
-
-cast-if4 : tie.Need-cast-if4
-cast-if4 c = search needs
 
 returns-4 : tie.Need-returns-4
 unfolding readNo known
@@ -55,9 +55,9 @@ refusal-spec =
     field-of-two-requires
     length-of-requires
     field-of-two-requires-2
+    cast-long
     returns
     returns-2
     returns-3
-    cast-if4
     returns-4
     returns-5)

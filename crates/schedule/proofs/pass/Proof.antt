@@ -53,29 +53,26 @@ enum-known-read c = search needs
 enum-told : tie.Need-enum-told Inv-loop μ-loop
 enum-told c = search needs
 
-number-of-requires : tie.Need-number-of-requires Inv-loop μ-loop
-number-of-requires c κs = search needs
-
-refused-requires : tie.Need-refused-requires Inv-loop μ-loop
-refused-requires c κs = search needs
+unread-requires : tie.Need-unread-requires Inv-loop μ-loop
+unread-requires c κs = search needs
 
 same-length : tie.Need-same-length Inv-loop μ-loop
 same-length c =
-    let at-read = c .before .before .before .before in
+    let at-read = c .before .before .before in
     (ends-unread (at-read .before .before .before .loop .inv) (at-read .before .if1 .taken) (at-read .read-at .ensures)
-    (c .before .before .enum-told .given .1) (c .before .number-of .ensures) .same-length)
+    (c .before .enum-told .given .1) .same-length)
 
 returns : tie.Need-returns Inv-loop μ-loop
 returns c =
-    let at-read = c .before .before .before .before in
-    rw (c .refused .ensures) (ends-unread (at-read .before .before .before .loop .inv) (at-read .before .if1 .taken) (at-read .read-at .ensures)
-    (c .before .before .enum-told .given .1) (c .before .number-of .ensures) .leaves)
+    let at-read = c .before .before .before in
+    rw (c .unread .ensures) (ends-unread (at-read .before .before .before .loop .inv) (at-read .before .if1 .taken) (at-read .read-at .ensures)
+    (c .before .enum-told .given .1) .leaves)
 
 serve-requires : tie.Need-serve-requires Inv-loop μ-loop
 serve-requires c κs = able (spot (c .before .before .before .before .before .before .before))
 
-refused-requires-2 : tie.Need-refused-requires-2 Inv-loop μ-loop
-refused-requires-2 c κs = search needs
+refused-requires : tie.Need-refused-requires Inv-loop μ-loop
+refused-requires c κs = search needs
 
 same-length-2 : tie.Need-same-length-2 Inv-loop μ-loop
 same-length-2 c =
@@ -87,7 +84,7 @@ returns-2 : tie.Need-returns-2 Inv-loop μ-loop
 returns-2 c =
     let at-serve = c .before .before .before .before .before in
     let q = spot (at-serve .before .before .before .before .before .before .before .before) in
-    rw (c .refused2 .ensures) (ends-refused q (at-serve .serve .ensures) (c .before .if2 .taken) .leaves)
+    rw (c .refused .ensures) (ends-refused q (at-serve .serve .ensures) (c .before .if2 .taken) .leaves)
 
 add-at : tie.Need-add-at Inv-loop μ-loop
 add-at c =
@@ -109,14 +106,14 @@ loop-again c =
     let at-serve = c .before .before .before .before .before in
     goes-on (spot (at-serve .before .before .before .before .before .before .before .before)) (at-serve .serve .ensures) (c .before .if2 .left)
 
-refused-requires-3 : tie.Need-refused-requires-3 Inv-loop μ-loop
-refused-requires-3 c κs = search needs
+refused-requires-2 : tie.Need-refused-requires-2 Inv-loop μ-loop
+refused-requires-2 c κs = search needs
 
 same-length-3 : tie.Need-same-length-3 Inv-loop μ-loop
 same-length-3 c = ends-late (c .before .before .before .before .loop .inv) (c .before .before .if1 .left) (c .before .if3 .taken) .same-length
 
 returns-3 : tie.Need-returns-3 Inv-loop μ-loop
-returns-3 c = rw (c .refused3 .ensures) (ends-late (c .before .before .before .before .loop .inv) (c .before .before .if1 .left) (c .before .if3 .taken) .leaves)
+returns-3 c = rw (c .refused2 .ensures) (ends-late (c .before .before .before .before .loop .inv) (c .before .before .if1 .left) (c .before .if3 .taken) .leaves)
 
 accepted-requires : tie.Need-accepted-requires Inv-loop μ-loop
 accepted-requires c κs = search needs
@@ -138,19 +135,18 @@ pass-spec =
     read-at-requires
     enum-known-read
     enum-told
-    number-of-requires
-    refused-requires
+    unread-requires
     same-length
     returns
     serve-requires
-    refused-requires-2
+    refused-requires
     same-length-2
     returns-2
     add-at
     add-record
     loop-less
     loop-again
-    refused-requires-3
+    refused-requires-2
     same-length-3
     returns-3
     accepted-requires

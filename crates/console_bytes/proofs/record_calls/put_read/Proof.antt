@@ -13,8 +13,11 @@ put-item-requires c κs = search needs
 enum-known-read-2 : tie.Need-enum-known-read-2
 enum-known-read-2 c = search needs
 
-put-refusal-requires : tie.Need-put-refusal-requires
-put-refusal-requires c κs = search needs
+slice-aggregate-put-values : tie.Need-slice-aggregate-put-values
+slice-aggregate-put-values c = search needs
+
+put-values-requires : tie.Need-put-values-requires
+put-values-requires c κs = search needs
 
 same-length : tie.Need-same-length
 same-length c = search needs
@@ -28,7 +31,7 @@ same-length-2 c = search needs
 
 returns-2 : tie.Need-returns-2
 unfolding readLine
-returns-2 c = rw (c .before .before .before .before .before .read2 .given .1) (c .before .before .put-refusal .ensures)
+returns-2 c = rw (c .before .before .before .before .before .before .read2 .given .1) (c .before .before .put-values .ensures)
 
 pub put-read-spec : {M : Type 1} → statement M
 put-read-spec =
@@ -37,7 +40,8 @@ put-read-spec =
     enum-known-read
     put-item-requires
     enum-known-read-2
-    put-refusal-requires
+    slice-aggregate-put-values
+    put-values-requires
     same-length
     returns
     same-length-2

@@ -1,0 +1,2 @@
+mod Starts
+pub mod Cut

@@ -1,0 +1,1 @@
+// What a cut file comes to: definitions, statements and proofs, no code.
