@@ -20,9 +20,12 @@ from independent.play import lines_of
 
 SEED, FILES, LINES, PLAYS = 1, 100, 2000, 28
 PANEL_LINES, PANEL_FILES, FEED_PLAYS = 2000, 130, 60
+SMALL_LINES, SMALL_PLAYS = 1200, 28
 # A fault in one of these shows on panels alone.
 PANEL_MODULES = ("panels", "designs", "panel_listing", "panel_walks", "feeds", "feed_calls",
                  "feed_promises")
+# A fault in one of these shows on the small cabinet alone.
+SMALL_MODULES = ("small", "small_calls", "small_promises")
 LONGEST = 150
 
 
@@ -101,6 +104,7 @@ def made_once():
         "lines": makers.console_lines(SEED, LINES),
         "panel lines": makers.panel_lines(SEED, PANEL_LINES),
         "designs": makers.design_files(SEED, PANEL_FILES),
+        "small lines": makers.small_lines(SEED, SMALL_LINES),
     }
 
 
@@ -113,6 +117,17 @@ def panel_comparison(name, made):
         ("panel_text", lambda: panel_comparisons.compare_panel_text(panel, made["designs"])),
         ("panels", lambda: comparisons.compare_console(console, made["panel lines"], "panels")),
         ("feeds", lambda: promises.check_feed_promises(SEED, FEED_PLAYS)),
+    )
+
+
+def small_comparison(name, made):
+    """The comparisons on the small cabinet of the true program with the copy, each as (what, call)."""
+    play = importlib.import_module(f"{name}.play")
+    promises = importlib.import_module(f"{name}.small_promises")
+    console = stopping_console(play.Console)
+    return (
+        ("dials", lambda: comparisons.compare_console(console, made["small lines"], "dials")),
+        ("polls", lambda: promises.check_small_promises(SEED, SMALL_PLAYS)),
     )
 
 
@@ -129,6 +144,13 @@ def comparison(name, made):
         ("console", lambda: comparisons.compare_console(stopping_console(play.Console), lines)),
         ("promises", lambda: promises.check_promises(SEED, PLAYS)),
     )
+
+
+def compared_on(module):
+    """The comparisons that a fault in the module shows on."""
+    if module in SMALL_MODULES:
+        return small_comparison
+    return panel_comparison if module in PANEL_MODULES else comparison
 
 
 def caught_by(name, made, compared):
@@ -149,13 +171,12 @@ def main():
         folder = Path(temporary)
         sys.path.insert(0, temporary)
         copy_with(folder, "unchanged", "run", [])
-        found = caught_by("unchanged", made, (comparison, panel_comparison))
+        found = caught_by("unchanged", made, (comparison, panel_comparison, small_comparison))
         if found:
             raise SystemExit(f"a copy without a fault differs: {found}")
         for number, (fault, module, changes) in enumerate(faults):
             copy_with(folder, f"planted_{number}", module, changes)
-            compared = panel_comparison if module in PANEL_MODULES else comparison
-            found = caught_by(f"planted_{number}", made, (compared,))
+            found = caught_by(f"planted_{number}", made, (compared_on(module),))
             missed += found is None
             print(f"caught by {found[0]}: {fault} | {found[1]}" if found
                   else f"NOT CAUGHT: {fault}", flush=True)

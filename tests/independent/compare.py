@@ -11,6 +11,8 @@
     panels     the console program on seeded lines about designs and runs over feed sheets
     panel_text the panel program on seeded design files, whole and damaged
     feeds      what holds of every feed sheet by random play, over the independent program itself
+    dials      the console program on seeded lines about the small cabinet
+    polls      what the dials tell by random play, over the independent program itself
 
 The end is 0 when all is equal, 1 at the first difference, 2 for bad usage.
 """
@@ -32,11 +34,14 @@ from .feed_promises import check_feed_promises
 from .maker_checks import check_makers
 from .panel_facts import check_panel_facts
 from .promises import check_promises
+from .small_facts import check_small_facts
+from .small_promises import check_small_promises
 
 ROOT = Path(__file__).resolve().parents[2]
 SIZES = {"facts": 1, "sheets": 1, "listing": 300, "trace": 300, "console": 10_000,
-         "promises": 2_800, "panels": 10_000, "panel_text": 300, "feeds": 1_000}
-PROGRAMS = {"panels": "console", "panel_text": "panel"}
+         "promises": 2_800, "panels": 10_000, "panel_text": 300, "feeds": 1_000,
+         "dials": 10_000, "polls": 280}
+PROGRAMS = {"panels": "console", "panel_text": "panel", "dials": "console"}
 FILES = {"listing": makers.schedule_files, "trace": makers.traced_files}
 
 
@@ -47,7 +52,8 @@ def arguments():
     parser.add_argument("what", choices=tuple(SIZES), metavar="WHAT", help=", ".join(SIZES))
     parser.add_argument("--seed", type=int, default=1, help="the makers' seed (1)")
     parser.add_argument("--size", type=int,
-                        help="how many files (300), lines (10000) or plays (2800, feeds 1000)")
+                        help="how many files (300), lines (10000) or plays (2800, feeds 1000, "
+                             "polls 280)")
     parser.add_argument("--text", type=Path, help="for sheets: a file with the text")
     parser.add_argument("--program", nargs=argparse.REMAINDER, metavar="PATH",
                         help="the program and its arguments, last of all on the line "
@@ -68,11 +74,13 @@ def compare(given):
     """The comparison that is asked for; in words, what was found equal."""
     size = given.size or SIZES[given.what]
     if given.what == "facts":
-        return f"{check_facts()}; {check_makers()}; {check_panel_facts()}"
+        return f"{check_facts()}; {check_makers()}; {check_panel_facts()}; {check_small_facts()}"
     if given.what == "promises":
         return f"{check_promises(given.seed, size)}; {check_cuts(given.seed)}"
     if given.what == "feeds":
         return check_feed_promises(given.seed, size)
+    if given.what == "polls":
+        return check_small_promises(given.seed, size)
     if given.what == "sheets":
         text = given.text.read_bytes() if given.text else comparisons.Program(given.program)(b"")
         return comparisons.compare_sheets(text)
@@ -86,6 +94,9 @@ def compare(given):
     if given.what == "panels":
         lines = makers.panel_lines(given.seed, size)
         return comparisons.compare_console(program, lines, "panels")
+    if given.what == "dials":
+        lines = makers.small_lines(given.seed, size)
+        return comparisons.compare_console(program, lines, "dials")
     if given.what in FILES:
         ours = given.program is None  # another program's exit status is its own affair
         if ours:

@@ -18,9 +18,9 @@ from .trace import trace
 
 LIMIT_SECONDS = 600
 TEXTS = {"listing": listing, "trace": trace}
-NO_REFUSAL = ("record", "set", "help", "frecord", "fset", "feed")
+NO_REFUSAL = ("record", "set", "help", "frecord", "fset", "feed", "drecord", "dset")
 # The lines from which on a comparison's play may be tried again.
-RESETS = {"console": ("open", "set"), "panels": ("feed",)}
+RESETS = {"console": ("open", "set"), "panels": ("feed",), "dials": ("dopen", "dset")}
 TRIED_RESETS = 3
 
 

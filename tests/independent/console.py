@@ -1,20 +1,21 @@
 """A model of the console program: each line of text has one line for an answer.
 
 It holds one run record, at first that of a refused opening, and what the lines
-of `feed_calls` hold. A line that is no call, or has a number that does not fit
+of `feed_calls` and `small_calls` hold. A line that is no call, or has a number that does not fit
 its type, is answered `?` and changes nothing.
 """
 
-from . import feed_calls, networks, records, run, schedule, words
+from . import feed_calls, networks, records, run, schedule, small_calls, words
 from .lent import untouched, untouched_numbers
 from .words import NoCall, hex_text, list_text, u16, u32
 
 HELP = ("open W C; record; set W C ENTERED COUNTS TOGGLES PLACES; enter T V; turn T; "
         "gaps ROOM; sheet W C LEN; view W C LAYER LEN LEN; read HEX; "
-        "write ROOM KIND FIELD ..; run ROOM HEX; " + feed_calls.HELP + "; help")
+        "write ROOM KIND FIELD ..; run ROOM HEX; " + feed_calls.HELP + "; "
+        + small_calls.HELP + "; help")
 
 
-class Console(feed_calls.FeedCalls):
+class Console(feed_calls.FeedCalls, small_calls.SmallCalls):
     """The console and the run record it holds."""
 
     def __init__(self):
@@ -124,4 +125,5 @@ CALLS = {
     "run": (Console.run_schedule, (words.room, words.hex_bytes)),
     "help": (Console.help, ()),
     **feed_calls.CALLS,
+    **small_calls.CALLS,
 }

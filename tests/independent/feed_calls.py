@@ -13,6 +13,7 @@ class FeedCalls:
     """The record that the console holds, at first of a refused opening, and its feed sheet."""
 
     def __init__(self):
+        super().__init__()
         self.feed_record = feeds.Feed()
         self.feed_sheet = b""
 

@@ -3,12 +3,14 @@
 Schedules whole and damaged are in `schedule_makers` and `damages`, run records
 reached, unreached and unsound in `record_makers`, single calls in `call_makers`.
 Designs whole and damaged are in `design_makers` and `design_damages`, feed sheets
-and the records of runs over them in `feed_record_makers`.
+and the records of runs over them in `feed_record_makers`, lines on the dials in
+`small_line_makers`.
 """
 
 import random
 
-from . import design_file_makers, feed_line_makers, file_makers, line_makers
+from . import (design_file_makers, feed_line_makers, file_makers, line_makers,
+               small_line_makers)
 from .listing import listing
 from .panel_listing import panel_listing
 from .trace import trace
@@ -34,6 +36,11 @@ def console_lines(seed, size):
 def panel_lines(seed, size):
     """So many console lines on panels and runs over feed sheets: (line, answer)."""
     return feed_line_makers.lines(random.Random(f"panel lines {seed}"), size)
+
+
+def small_lines(seed, size):
+    """So many console lines on the small cabinet: (line, answer)."""
+    return small_line_makers.lines(random.Random(f"small lines {seed}"), size)
 
 
 def design_files(seed, size):

@@ -1,25 +1,27 @@
 // Which call a line is. A call has a name, and then words of the kinds that it asks, a letter each: a number of 16 bits (s),
 // one of 32 bits (l), the length of what is lent (r), the kind of a record (1 to 5), bytes in hex (h), those of a feed sheet (f), a
-// list of a record (c, t, p).
+// list of a record (c, t, p, d).
 ghost use Prim.Native.Nat.{_≤_};
 use console_lines::numbers;
 use console_lines::parts;
 use console_lines::words;
 
-// The number of a line's call among these, from 0; 24 where it is none.
-//   0 open ss      6 fenter ss   12 fgaps r      18 help
-//   1 set sslctp   7 fturn s     13 sheet ssr    19 write r1ss
-//   2 enter ss     8 feed f      14 view sssrr   20 write r2ss
-//   3 turn s       9 record      15 read h       21 write r3s
-//   4 fopen ss     10 gaps r     16 run rh       22 write r4l
-//   5 fset sslctp  11 frecord    17 panel rh     23 write r5ssl
+// The number of a line's call among these, from 0; 31 where it is none.
+//   0 open ss      8 dopen ss       16 frecord      24 panel rh
+//   1 set sslctp   9 dset sslctpd   17 fgaps r      25 help
+//   2 enter ss     10 denter ss     18 drecord      26 write r1ss
+//   3 turn s       11 dturn s       19 highest sc   27 write r2ss
+//   4 fopen ss     12 poll s        20 sheet ssr    28 write r3s
+//   5 fset sslctp  13 feed f        21 view sssrr   29 write r4l
+//   6 fenter ss    14 record        22 read h       30 write r5ssl
+//   7 fturn s      15 gaps r        23 run rh
 pub fn call_of(line: &[u8]) -> usize
-    ensures { λ r. ⌜ r ≤ 24 ⌝ }
+    ensures { λ r. ⌜ r ≤ 31 ⌝ }
 {
     let table =
-        b"open ss,set sslctp,enter ss,turn s,fopen ss,fset sslctp,fenter ss,fturn s,feed f,record ,gaps r,frecord ,fgaps r,sheet ssr,view sssrr,read h,run rh,panel rh,help ,write r1ss,write r2ss,write r3s,write r4l,write r5ssl";
+        b"open ss,set sslctp,enter ss,turn s,fopen ss,fset sslctp,fenter ss,fturn s,dopen ss,dset sslctpd,denter ss,dturn s,poll s,feed f,record ,gaps r,frecord ,fgaps r,drecord ,highest sc,sheet ssr,view sssrr,read h,run rh,panel rh,help ,write r1ss,write r2ss,write r3s,write r4l,write r5ssl";
     let mut call = 0;
-    while call < 24 {
+    while call < 31 {
         if is(line, parts::part(table, b',', call)) {
             return call;
         }
@@ -41,7 +43,7 @@ fn fits(word: &[u8], kind: u8) -> bool {
         b'r' => numbers::is_decimal(word, 65_536),
         b'h' => numbers::is_hex(word),
         b'f' => numbers::is_hex(word) & (word.len() <= 131_072),
-        b'c' | b't' | b'p' => console_lists::is_list(kind, word),
+        b'c' | b't' | b'p' | b'd' => console_lists::is_list(kind, word),
         _ => is_kind(word, kind),
     }
 }

@@ -14,11 +14,13 @@ use console_lines::input::Lines;
 use console_run::Answered;
 use feeds::FeedRun;
 use run::Run;
+use small::Cabinet;
 
 // What the console holds besides the bytes of the feed sheet: a record of each product, and how many bytes that sheet has.
 struct Holding {
     run: Run,
     feed: FeedRun,
+    small: Cabinet,
     fed: usize,
 }
 
@@ -33,7 +35,7 @@ fn put_help(text: &mut [u8]) -> usize {
     text::put_text(
         text,
         0,
-        b"open W C; record; set W C ENTERED COUNTS TOGGLES PLACES; enter T V; turn T; gaps ROOM; sheet W C LEN; view W C LAYER LEN LEN; read HEX; write ROOM KIND FIELD ..; run ROOM HEX; panel ROOM HEX; feed HEX; fopen W D; fenter T V; fturn T; fgaps ROOM; frecord; fset W D ENTERED COUNTS TOGGLES PLACES; help\n",
+        b"open W C; record; set W C ENTERED COUNTS TOGGLES PLACES; enter T V; turn T; gaps ROOM; sheet W C LEN; view W C LAYER LEN LEN; read HEX; write ROOM KIND FIELD ..; run ROOM HEX; panel ROOM HEX; feed HEX; fopen W D; fenter T V; fturn T; fgaps ROOM; frecord; fset W D ENTERED COUNTS TOGGLES PLACES; dopen W C; denter T V; dturn T; poll E; drecord; dset W C ENTERED COUNTS TOGGLES PLACES DIALS; highest W SUMS; help\n",
     )
 }
 
@@ -68,46 +70,90 @@ fn on_feed(
     }
 }
 
-// A call that leaves what is held as it is. Gives where its answer ends.
-fn show(call: usize, line: &[u8], text: &mut [u8], run: Run, feed: FeedRun) -> usize {
+// A call that changes the small cabinet. Gives the cabinet after it.
+fn on_small(
+    call: usize,
+    line: &[u8],
+    text: &mut [u8],
+    cabinet: Cabinet,
+) -> console_small::Answered {
     match call {
-        9 => console_run::record(text, run),
-        10 => console_run::gaps(line, text, run),
-        11 => console_feed::record(text, feed),
-        12 => console_feed::gaps(line, text, feed),
-        13 => sheet_calls::sheet(line, text),
-        14 => sheet_calls::view(line, text),
-        15 => record_calls::read(line, text),
-        16 => record_calls::run(line, text),
-        17 => console_panel::panel(line, text),
-        18 => put_help(text),
-        24 => put_unknown(text),
+        8 => console_small::open(line, text),
+        9 => console_small::set(line, text),
+        10 => console_small::enter(line, text, cabinet),
+        11 => console_small::turn(line, text, cabinet),
+        _ => console_small::poll(line, text, cabinet),
+    }
+}
+
+// A call that shows a record or its gaps. Gives where its answer ends.
+fn show(call: usize, line: &[u8], text: &mut [u8], holding: Holding) -> usize {
+    let run = holding.run;
+    let feed = holding.feed;
+    let cabinet = holding.small;
+    match call {
+        14 => console_run::record(text, run),
+        15 => console_run::gaps(line, text, run),
+        16 => console_feed::record(text, feed),
+        17 => console_feed::gaps(line, text, feed),
+        _ => console_small::record(text, cabinet),
+    }
+}
+
+// A call that what is held has no part in. Gives where its answer ends.
+fn work_out(call: usize, line: &[u8], text: &mut [u8]) -> usize {
+    match call {
+        19 => console_small::highest(line, text),
+        20 => sheet_calls::sheet(line, text),
+        21 => sheet_calls::view(line, text),
+        22 => record_calls::read(line, text),
+        23 => record_calls::run(line, text),
+        24 => console_panel::panel(line, text),
+        25 => put_help(text),
+        31 => put_unknown(text),
         _ => record_calls::write(line, text),
     }
 }
 
 // Answers a call that leaves the feed sheet as it is.
-fn answer_call(call: usize, line: &[u8], text: &mut [u8], sheet: &[u8], holding: Holding) -> Told
+fn answer_call(
+    call: usize,
+    line: &[u8],
+    text: &mut [u8],
+    sheet: &[u8],
+    mut holding: Holding,
+) -> Told
     ensures { λ r. ⌜ r .holding .fed ≡ holding .fed ⌝ }
 {
-    let fed = holding.fed;
-    let run = holding.run;
-    let feed = holding.feed;
     if call < 4 {
+        let run = holding.run;
         let answered = on_run(call, line, text, run);
-        let end = answered.end;
         let run = answered.run;
-        let holding = Holding { run, feed, fed };
+        holding.run = run;
+        let end = answered.end;
         return Told { holding, end };
     }
     if call < 8 {
+        let feed = holding.feed;
         let answered = on_feed(call, line, text, feed, sheet);
-        let end = answered.end;
         let feed = answered.run;
-        let holding = Holding { run, feed, fed };
+        holding.feed = feed;
+        let end = answered.end;
         return Told { holding, end };
     }
-    let end = show(call, line, text, run, feed);
+    if call < 13 {
+        let cabinet = holding.small;
+        let answered = on_small(call, line, text, cabinet);
+        let cabinet = answered.cabinet;
+        holding.small = cabinet;
+        let end = answered.end;
+        return Told { holding, end };
+    }
+    if call < 19 {
+        let end = show(call, line, text, holding);
+        return Told { holding, end };
+    }
+    let end = work_out(call, line, text);
     Told { holding, end }
 }
 
@@ -117,7 +163,7 @@ fn answer(line: &[u8], text: &mut [u8], sheet: &mut [u8], mut holding: Holding) 
     ensures { λ r. ⌜ r .holding .fed ≤ length (now (sheet .exit)) ⌝ }
 {
     let call = calls::call_of(line);
-    if call == 8 {
+    if call == 13 {
         let put = console_feed::feed(line, text, sheet);
         holding.fed = put.count;
         let end = put.end;
@@ -154,9 +200,16 @@ fn at_first() -> Holding
     let none = [0u8; 0];
     let opened = Run::open(0, 0);
     let fed = FeedRun::open(0, 0, &none);
+    let small = Cabinet::open(0, 0);
     let run = opened.run;
     let feed = fed.run;
-    Holding { run, feed, fed: 0 }
+    let small = small.cabinet;
+    Holding {
+        run,
+        feed,
+        small,
+        fed: 0,
+    }
 }
 
 // Answers lines to the end of the input.

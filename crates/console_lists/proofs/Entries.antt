@@ -1,4 +1,4 @@
--- Laws of the lists of a run record. In order: an index that is read, an entry that is read, the parts of a text, what is left
+-- Laws of the lists of a record. In order: an index that is read, an entry that is read, the parts of a text, what is left
 -- of a list. Assumes nothing.
 use Prim.Native.Nat.{ℕ, suc, _+_, _-_, _≤_, _<_}
 use native.Mathlib.Nat.{eq-or-lt-of-le}
@@ -15,7 +15,7 @@ use Rattle.bytes.specs.Bytes.{indexOf, indexAfter}
 use Rattle.console_lines.specs.Digits.{digitOf, allBelow, isNumber, NumberIs}
 use Rattle.console_lines.specs.Marked.{behind, partAt, partCount, PartEnds, PartsCounted}
 use Rattle.board.proofs.Lists.{and-left, and-right}
-use Rattle.console_lists.specs.Entries.{indexIn, isIndex, isKeyed, isCount, isToggle, isSeat, isPlace, isEntry, nextOf, IndexIs, EntryRead}
+use Rattle.console_lists.specs.Entries.{indexIn, isIndex, isKeyed, isCount, isToggle, areThree, isPlace, isDial, isEntry, nextOf, IndexIs, EntryRead}
 use Rattle.console_lists.specs.Lists.{firstEntries, areEntries, isDash, isList}
 
 -- ---- an index
@@ -88,9 +88,9 @@ module _ {keyed : Bool} {index size at : ℕ} (rest : Bool) (key : IndexIs keyed
 pub number-test : {text part : List ℕ} {most : ℕ} {ok : Bool} {value : ℕ} → text ≡ part → NumberIs text most ok value → ok ≡ isNumber part most
 number-test same read = rw same at (read .is-one)
 
-pub seat-test : {text : List ℕ} {n : ℕ} {inside level wire : Bool} → PartsCounted 47 text n → inside ≡ isNumber (partAt 47 text 0) 1 → level ≡ isNumber (partAt 47 text 1) 65535 → wire ≡ isNumber (partAt 47 text 2) 65535 → eqb n 3 && inside && level && wire ≡ isSeat text
-unfolding isSeat
-seat-test counted inside level wire = rw (counted .whole, inside, level, wire)
+pub three-test : (a b c : ℕ) {text : List ℕ} {n : ℕ} {first second third : Bool} → PartsCounted 47 text n → first ≡ isNumber (partAt 47 text 0) a → second ≡ isNumber (partAt 47 text 1) b → third ≡ isNumber (partAt 47 text 2) c → eqb n 3 && first && second && third ≡ areThree a b c text
+unfolding areThree
+three-test a b c counted first second third = rw (counted .whole, first, second, third)
 
 -- digits hold no `=`
 no-mark : (text : List ℕ) → allBelow 10 text ≡ true → indexOf 61 text ≡ length text
@@ -125,9 +125,14 @@ module _ {list : ℕ} (entry : List ℕ) (least : ℕ) where
   unfolding isEntry
   entry-toggle h = rw h
 
-  pub entry-place : (list ≡ 99 → ⊥) → (list ≡ 116 → ⊥) → isEntry list entry least ≡ isPlace entry least
+  pub entry-dial : list ≡ 100 → isEntry list entry least ≡ isDial entry least
   unfolding isEntry
-  entry-place no-count no-toggle = rw (ne-eqb list 99 no-count, ne-eqb list 116 no-toggle)
+  entry-dial h = rw h
+
+  pub entry-place : (list ≡ 99 → ⊥) → (list ≡ 116 → ⊥) → (list ≡ 100 → ⊥) → isEntry list entry least ≡ isPlace entry least
+  unfolding isEntry
+  entry-place no-count no-toggle no-dial =
+      rw (ne-eqb list 99 no-count, ne-eqb list 116 no-toggle, ne-eqb list 100 no-dial)
 
 -- ---- the parts of a text, by its first mark
 

@@ -1,4 +1,4 @@
--- An entry of a list of a run record, as text. Definitions only. Assumes nothing.
+-- An entry of a list of a record, as text. Definitions only. Assumes nothing.
 use Prim.Native.Nat.{ℕ, _+_, _≤_}
 use mathlib.Core.Path.{_≡_}
 use mathlib.Core.Bool.{Bool, cond, _&&_}
@@ -27,19 +27,34 @@ isCount entry least = isKeyed entry least 64 && isNumber (partAt 61 entry 1) 429
 unfoldable pub isToggle : List ℕ → ℕ → Bool
 isToggle entry least = isIndex entry least 1152
 
+-- three numbers with `/` between them, each with its most
+unfoldable pub areThree : ℕ → ℕ → ℕ → List ℕ → Bool
+areThree a b c text =
+    eqb (partCount 47 text) 3 && isNumber (partAt 47 text 0) a && isNumber (partAt 47 text 1) b && isNumber (partAt 47 text 2) c
+
 -- `INSIDE/LEVEL/WIRE`
-unfoldable pub isSeat : List ℕ → Bool
-isSeat text =
-    eqb (partCount 47 text) 3 && isNumber (partAt 47 text 0) 1 && isNumber (partAt 47 text 1) 65535 && isNumber (partAt 47 text 2) 65535
+abbrev pub isSeat : List ℕ → Bool
+isSeat text = areThree 1 65535 65535 text
 
 -- `t=INSIDE/LEVEL/WIRE`: where token t is
 unfoldable pub isPlace : List ℕ → ℕ → Bool
 isPlace entry least = isKeyed entry least 256 && isSeat (partAt 61 entry 1)
 
--- an entry of exit counts (c), of toggles (t) or, for any other letter, of places
+-- `NOW/LAST/SUM`
+abbrev pub isReading : List ℕ → Bool
+isReading text = areThree 65535 65535 4294967295 text
+
+-- `i=NOW/LAST/SUM`: the dial of exit i, its last reading and the sum of its yields
+unfoldable pub isDial : List ℕ → ℕ → Bool
+isDial entry least = isKeyed entry least 64 && isReading (partAt 61 entry 1)
+
+-- an entry of exit counts (c), of toggles (t), of dials (d) or, for any other letter, of places
 unfoldable pub isEntry : ℕ → List ℕ → ℕ → Bool
 isEntry list entry least =
-    cond (eqb list 99) (isCount entry least) (cond (eqb list 116) (isToggle entry least) (isPlace entry least))
+    cond
+    (eqb list 99)
+    (isCount entry least)
+    (cond (eqb list 116) (isToggle entry least) (cond (eqb list 100) (isDial entry least) (isPlace entry least)))
 
 -- the least index of the entry behind this one, whose own index is in front of `=`, or all of it
 abbrev pub nextOf : List ℕ → ℕ

@@ -1,3 +1,3 @@
--- Which texts are entries and lists of a run record. Definitions only. Assumes nothing.
+-- Which texts are entries and lists of a record. Definitions only. Assumes nothing.
 pub mod Entries
 pub mod Lists

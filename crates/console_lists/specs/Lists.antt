@@ -1,4 +1,4 @@
--- Which texts are lists of a run record: entries with commas between them, or `-` for no entry. Definitions only. Assumes nothing.
+-- Which texts are lists of a record: entries with commas between them, or `-` for no entry. Definitions only. Assumes nothing.
 use Prim.Native.Nat.{ℕ, zero, suc}
 use mathlib.Core.Path.{_≡_}
 use mathlib.Core.Bool.{Bool, true, false, _&&_, _||_}

@@ -1,11 +1,11 @@
-// The lists of a run record, from text: entries with commas between them, their indexes within the record and strictly
-// rising; `-` is no entry. A list is exit counts (c), toggles that are down (t) or places of tokens (p).
+// The lists of a record, from text: entries with commas between them, their indexes within the record and strictly rising; `-` is
+// no entry. A list is exit counts (c), toggles that are down (t) or places of tokens (p), and these name a board; or dials (d).
 ghost use mathlib.Core.Path.{_≡_};
 ghost use Prim.Native.Nat.{_+_};
 ghost use mathlib.Core.Bool.{false};
 ghost use Rattle.console_lines.specs.Marked.{partAt};
 ghost use Rattle.console_lines.specs.Words.{longAt};
-ghost use Rattle.console_lists.specs.Entries.{indexIn, isIndex, isKeyed, isCount, isToggle, isSeat, isPlace, isEntry, nextOf, IndexIs, EntryRead};
+ghost use Rattle.console_lists.specs.Entries.{indexIn, isIndex, isKeyed, isCount, isToggle, isSeat, isPlace, isReading, isDial, isEntry, nextOf, IndexIs, EntryRead};
 ghost use Rattle.console_lists.specs.Lists.{isList, ListRead};
 use board::Board;
 use board::Place;
@@ -32,7 +32,7 @@ fn refused(board: Board) -> Stored
 }
 
 // The index that a text spells, from `least` on; `size` where it spells none below that.
-fn index(text: &[u8], least: usize, size: usize) -> usize
+pub fn index(text: &[u8], least: usize, size: usize) -> usize
     ensures { λ r. ⌜ IndexIs (isIndex (now (text .entry)) least size) (indexIn (now (text .entry))) size r ⌝ }
 {
     let read = numbers::decimal(text, 65_535);
@@ -123,12 +123,39 @@ fn place(entry: &[u8], least: usize, mut board: Board) -> Stored
     Stored { next, board }
 }
 
+// Is the text `NOW/LAST/SUM`?
+fn is_reading(text: &[u8]) -> bool
+    ensures { λ r. ⌜ r ≡ isReading (now (text .entry)) ⌝ }
+{
+    let now = numbers::is_decimal(parts::part(text, b'/', 0), 65_535);
+    let last = numbers::is_decimal(parts::part(text, b'/', 1), 65_535);
+    let sum = numbers::is_decimal(parts::part(text, b'/', 2), 4_294_967_295);
+    (parts::count(text, b'/') == 3) & now & last & sum
+}
+
+// `i=NOW/LAST/SUM`: judged alone, for a board has no dials.
+fn dial(entry: &[u8], least: usize, board: Board) -> Stored
+    ensures { λ r. ⌜ EntryRead (isDial (now (entry .entry)) least) (nextOf (now (entry .entry))) (r .next) (board .entered) (r .board .entered) ⌝ }
+{
+    let at = key(entry, least, 64);
+    let good = is_reading(parts::part(entry, b'=', 1));
+    if at == 64 {
+        return refused(board);
+    }
+    if !good {
+        return refused(board);
+    }
+    let next = at + 1;
+    Stored { next, board }
+}
+
 fn entry(list: u8, text: &[u8], least: usize, board: Board) -> Stored
     ensures { λ r. ⌜ EntryRead (isEntry list (now (text .entry)) least) (nextOf (now (text .entry))) (r .next) (board .entered) (r .board .entered) ⌝ }
 {
     match list {
         b'c' => count(text, least, board),
         b't' => toggle(text, least, board),
+        b'd' => dial(text, least, board),
         _ => place(text, least, board),
     }
 }

@@ -45,8 +45,11 @@ unfoldable pub placeList : Board → List ℕ
 placeList b = listed (indexed isPlaced placeEntry 0 (b .places))
 
 unfoldable pub boardText : Board → List ℕ
-boardText b = countList b ++ (letters " " ++ (toggleList b ++ (letters " " ++ (placeList b ++ letters "\n"))))
+boardText b = countList b ++ (letters " " ++ (toggleList b ++ (letters " " ++ placeList b)))
 
--- the line of a record of width w and construction or depth k
+-- a record of width w and construction or depth k
+unfoldable pub recordText : ℕ → ℕ → Board → List ℕ
+recordText w k b = decimal w ++ (row (k ∷ b .entered ∷ []) ++ (letters " " ++ boardText b))
+
 unfoldable pub recordLine : ℕ → ℕ → Board → List ℕ
-recordLine w k b = decimal w ++ (row (k ∷ b .entered ∷ []) ++ (letters " " ++ boardText b))
+recordLine w k b = recordText w k b ++ letters "\n"

@@ -1,10 +1,11 @@
 // A record as text, put into a lent text: `W C ENTERED COUNTS TOGGLES PLACES` of a run record, and with the depth in place of the
-// construction that of a run over a feed sheet. Of its lists, only what differs from an opening.
+// construction that of a run over a feed sheet; that of a small cabinet goes on with its dials. Of its lists, only what differs from an
+// opening.
 ghost use mathlib.Core.Path.{_≡_};
 ghost use Rattle.text.specs.Text.{Puts};
 ghost use Rattle.text.specs.Lists.{entryIf};
 ghost use Rattle.board.specs.Sound.{insideOne};
-ghost use Rattle.console_record.specs.Record.{hasDealt, countEntry, isDown, toggleEntry, isPlaced, placeEntry, countList, toggleList, placeList, boardText, recordLine};
+ghost use Rattle.console_record.specs.Record.{hasDealt, countEntry, isDown, toggleEntry, isPlaced, placeEntry, countList, toggleList, placeList, boardText, recordText, recordLine};
 use board::Board;
 use board::Place;
 
@@ -113,7 +114,7 @@ fn put_places(out: &mut [u8], at: usize, board: Board) -> usize
     text::put_dash(out, next, some)
 }
 
-// `COUNTS TOGGLES PLACES` and the line feed
+// `COUNTS TOGGLES PLACES`
 fn put_board(out: &mut [u8], at: usize, board: Board) -> usize
     ensures { λ r. ⌜ Puts (boardText board) at (now (out .entry)) r (now (out .exit)) ⌝ }
 {
@@ -121,17 +122,24 @@ fn put_board(out: &mut [u8], at: usize, board: Board) -> usize
     let second = text::put_byte(out, first, b' ');
     let third = put_toggles(out, second, board);
     let fourth = text::put_byte(out, third, b' ');
-    let fifth = put_places(out, fourth, board);
-    text::put_byte(out, fifth, b'\n')
+    put_places(out, fourth, board)
 }
 
-// The line of a record of this width and construction or depth, at the front.
-pub fn put_record(out: &mut [u8], width: u16, kind: u16, board: Board) -> usize
-    ensures { λ r. ⌜ Puts (recordLine width kind board) 0 (now (out .entry)) r (now (out .exit)) ⌝ }
+// A record of this width and construction or depth, at the front.
+pub fn put_parts(out: &mut [u8], width: u16, kind: u16, board: Board) -> usize
+    ensures { λ r. ⌜ Puts (recordText width kind board) 0 (now (out .entry)) r (now (out .exit)) ⌝ }
 {
     let values = [kind as usize, board.entered as usize];
     let first = text::put_decimal(out, 0, width as usize);
     let second = text::put_row(out, first, &values);
     let third = text::put_byte(out, second, b' ');
     put_board(out, third, board)
+}
+
+// Its line.
+pub fn put_record(out: &mut [u8], width: u16, kind: u16, board: Board) -> usize
+    ensures { λ r. ⌜ Puts (recordLine width kind board) 0 (now (out .entry)) r (now (out .exit)) ⌝ }
+{
+    let end = put_parts(out, width, kind, board);
+    text::put_byte(out, end, b'\n')
 }

@@ -1,5 +1,6 @@
-// The console's calls on the run that it holds, and the answers that calls on a run over a feed sheet have too. A line is the call
-// that it is handed to; its answer is put into the front of a lent text. A call that changes the run gives the run after it.
+// The console's calls on the run that it holds, and the answers that calls on a run over a feed sheet and on a small cabinet have too.
+// A line is the call that it is handed to; its answer is put into the front of a lent text. A call that changes the run gives the run
+// after it.
 ghost use mathlib.Core.Path.{_≡_};
 ghost use mathlib.Core.Bool.{cond};
 ghost use lib.ListN.{replicate};

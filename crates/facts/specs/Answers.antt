@@ -17,6 +17,8 @@ use Rattle.feed_sheet.proofs as feed_sheet
 use Rattle.feeds.proofs as feeds
 use Rattle.feed_gaps.proofs as feed_gaps
 use Rattle.panels.proofs as panels
+use Rattle.dials.proofs as dials
+use Rattle.small.proofs as small
 use Rattle.listing_text.proofs as listing_text
 use Rattle.trace_text.proofs as trace_text
 use Rattle.panel_text.proofs as panel_text
@@ -79,6 +81,16 @@ pub record OneAnswer : Type 0 where
   pub feed-gap-list : One feed_gaps.gap_list.ended feed_gaps.gap_list.Reads.Learnt
   -- panels
   pub panel : One panels.read.ended panels.read.Reads.Learnt
+  -- dials
+  pub dial-opening : One dials.Dial.«open».ended dials.Dial.«open».Reads.Learnt
+  pub dial-advance : One dials.Dial.advance.ended dials.Dial.advance.Reads.Learnt
+  pub dial-poll : One dials.Dial.poll.ended dials.Dial.poll.Reads.Learnt
+  pub highest : One dials.highest.ended dials.highest.Reads.Learnt
+  -- small
+  pub small-opening : One small.Cabinet.«open».ended small.Cabinet.«open».Reads.Learnt
+  pub small-enter : One small.Cabinet.enter.ended small.Cabinet.enter.Reads.Learnt
+  pub small-turn : One small.Cabinet.turn.ended small.Cabinet.turn.Reads.Learnt
+  pub small-poll : One small.Cabinet.poll.ended small.Cabinet.poll.Reads.Learnt
   -- listing_text
   pub listing : One listing_text.listing.ended listing_text.listing.Reads.Learnt
   -- trace_text

@@ -91,7 +91,7 @@ module _ (w : ℕ) (pos : 0 < w) where
   pub book-same : (a b : ℕ → ℕ) (deals : List Deal) → ((i : ℕ) → i < w → b i ≡ a i) → Book w a deals → Book w b deals
   book-same a b deals h k v = rw (h (v % w) (mod-lt v pos)) (k v)
 
-  number-div : (i c : ℕ) → i < w → (i + w * c) / w ≡ c
+  pub number-div : (i c : ℕ) → i < w → (i + w * c) / w ≡ c
   number-div i c l = add-mul-div-left i c pos ∙ ap (λ z. z + c) (div-eq-of-lt l) ∙ zero-add c
 
   pub number-mod : (i c : ℕ) → i < w → (i + w * c) % w ≡ i

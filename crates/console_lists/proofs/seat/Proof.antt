@@ -1,6 +1,6 @@
 -- `console_lists::seat` meets its contract: its test is the rule's. Assumes nothing.
 use borrow.Author.Needs.{needs}
-use Rattle.console_lists.proofs.Entries.{number-test, seat-test}
+use Rattle.console_lists.proofs.Entries.{number-test, three-test}
 use Rattle.console_lists.proofs.seat.Statement.{statement}
 use Rattle.console_lists.proofs.seat.Tie as tie
 
@@ -37,7 +37,10 @@ returns c =
     let at-wire = at-count .before in
     let at-level = at-wire .before .before in
     let at-inside = at-level .before .before in
-    seat-test
+    three-test
+    1
+    65535
+    65535
     (at-count .count .ensures)
     (number-test (at-inside .before .part .ensures) (at-inside .decimal .ensures))
     (number-test (at-level .before .part2 .ensures) (at-level .decimal2 .ensures))

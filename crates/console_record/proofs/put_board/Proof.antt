@@ -21,15 +21,12 @@ put-byte-requires-2 c κs = search needs
 put-places-requires : tie.Need-put-places-requires
 put-places-requires c κs = search needs
 
-put-byte-requires-3 : tie.Need-put-byte-requires-3
-put-byte-requires-3 c κs = search needs
-
 same-length : tie.Need-same-length
 same-length c = search needs
 
 returns : tie.Need-returns
 unfolding boardText letters
-returns c = puts-then (c .before .before .before .before .before .before .before .before .before .before .before .before .before .before .before .before .before .before .before .before .before .before .put-counts .ensures) (puts-then (c .before .before .before .before .before .before .before .before .before .before .before .before .before .before .before .before .before .before .put-byte .ensures) (puts-then (c .before .before .before .before .before .before .before .before .before .before .before .before .before .before .put-toggles .ensures) (puts-then (c .before .before .before .before .before .before .before .before .before .before .put-byte2 .ensures) (puts-then (c .before .before .before .before .before .before .put-places .ensures) (c .before .before .put-byte3 .ensures)))))
+returns c = puts-then (c .before .before .before .before .before .before .before .before .before .before .before .before .before .before .before .before .before .before .put-counts .ensures) (puts-then (c .before .before .before .before .before .before .before .before .before .before .before .before .before .before .put-byte .ensures) (puts-then (c .before .before .before .before .before .before .before .before .before .before .put-toggles .ensures) (puts-then (c .before .before .before .before .before .before .put-byte2 .ensures) (c .before .before .put-places .ensures))))
 
 pub put-board-spec : {M : Type 1} → statement M
 put-board-spec =
@@ -40,6 +37,5 @@ put-board-spec =
     put-toggles-requires
     put-byte-requires-2
     put-places-requires
-    put-byte-requires-3
     same-length
     returns)

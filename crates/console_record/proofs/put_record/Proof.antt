@@ -1,4 +1,4 @@
--- `console_record::put_record` meets its contract: one part behind another. Assumes nothing.
+-- `console_record::put_record` meets its contract: the record, and the line feed. Assumes nothing.
 use Rattle.text.specs.Text.{letters}
 use Rattle.text.proofs.Text.{puts-then}
 use Rattle.console_record.specs.Record.{recordLine}
@@ -6,40 +6,18 @@ use borrow.Author.Needs.{needs}
 use Rattle.console_record.proofs.put_record.Statement.{statement}
 use Rattle.console_record.proofs.put_record.Tie as tie
 
-cast-t10 : tie.Need-cast-t10
-cast-t10 c = search needs
-
-put-decimal-requires : tie.Need-put-decimal-requires
-put-decimal-requires c κs = search needs
-
-slice-aggregate-put-row : tie.Need-slice-aggregate-put-row
-slice-aggregate-put-row c = search needs
-
-put-row-requires : tie.Need-put-row-requires
-put-row-requires c κs = search needs
+put-parts-requires : tie.Need-put-parts-requires
+put-parts-requires c κs = search needs
 
 put-byte-requires : tie.Need-put-byte-requires
 put-byte-requires c κs = search needs
-
-put-board-requires : tie.Need-put-board-requires
-put-board-requires c κs = search needs
 
 same-length : tie.Need-same-length
 same-length c = search needs
 
 returns : tie.Need-returns
 unfolding recordLine letters
-returns c = puts-then (c .before .before .before .before .before .before .before .before .before .before .before .before .before .before .before .put-decimal .ensures) (puts-then (c .before .before .before .before .before .before .before .before .before .before .put-row .ensures) (puts-then (c .before .before .before .before .before .before .put-byte .ensures) (c .before .before .put-board .ensures)))
+returns c = puts-then (c .before .before .before .before .before .before .put-parts .ensures) (c .before .before .put-byte .ensures)
 
 pub put-record-spec : {M : Type 1} → statement M
-put-record-spec =
-    tie.close
-    (tie.spec
-    cast-t10
-    put-decimal-requires
-    slice-aggregate-put-row
-    put-row-requires
-    put-byte-requires
-    put-board-requires
-    same-length
-    returns)
+put-record-spec = tie.close (tie.spec put-parts-requires put-byte-requires same-length returns)

@@ -1,5 +1,8 @@
 -- `console_run::enter` meets its contract. Assumes nothing.
-use Rattle.console_run.proofs.Calls.{enter-answered}
+use Rattle.run.specs.declared.Entered.{Entered}
+use Rattle.run.specs.Run.{enterOf}
+use Rattle.console_answers.specs.Answers.{refusalLine}
+use Rattle.console_run.proofs.Calls.{answered-2}
 use borrow.Author.Needs.{needs}
 use Rattle.console_run.proofs.enter.Statement.{statement}
 use Rattle.console_run.proofs.enter.Tie as tie
@@ -20,7 +23,7 @@ same-length : tie.Need-same-length
 same-length c = search needs
 
 returns : tie.Need-returns
-returns c = enter-answered _ (c .before .before .before .before .before .enter .ensures) (c .before .before .before .before .before .before .before .short .ensures) (c .before .before .before .before .before .before .short2 .ensures) (c .before .before .before .put-refusal .ensures)
+returns c = answered-2 (λ (x : Entered). x .run) (λ (x : Entered). refusalLine (x .refusal)) (enterOf _) (c .before .before .before .before .before .enter .ensures) (c .before .before .before .before .before .before .before .short .ensures) (c .before .before .before .before .before .before .short2 .ensures) (c .before .before .before .put-refusal .ensures)
 
 pub enter-spec : {M : Type 1} → statement M
 enter-spec =

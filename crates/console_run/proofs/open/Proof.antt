@@ -1,5 +1,8 @@
 -- `console_run::open` meets its contract. Assumes nothing.
-use Rattle.console_run.proofs.Calls.{open-answered}
+use Rattle.run.specs.declared.Opened.{Opened}
+use Rattle.run.specs.Run.{openOf}
+use Rattle.console_answers.specs.Answers.{refusalLine}
+use Rattle.console_run.proofs.Calls.{answered-2}
 use borrow.Author.Needs.{needs}
 use Rattle.console_run.proofs.open.Statement.{statement}
 use Rattle.console_run.proofs.open.Tie as tie
@@ -20,7 +23,7 @@ same-length : tie.Need-same-length
 same-length c = search needs
 
 returns : tie.Need-returns
-returns c = open-answered (c .before .before .before .before .before .«open» .ensures) (c .before .before .before .before .before .before .before .short .ensures) (c .before .before .before .before .before .before .short2 .ensures) (c .before .before .before .put-refusal .ensures)
+returns c = answered-2 (λ (x : Opened). x .run) (λ (x : Opened). refusalLine (x .refusal)) openOf (c .before .before .before .before .before .«open» .ensures) (c .before .before .before .before .before .before .before .short .ensures) (c .before .before .before .before .before .before .short2 .ensures) (c .before .before .before .put-refusal .ensures)
 
 pub open-spec : {M : Type 1} → statement M
 open-spec =

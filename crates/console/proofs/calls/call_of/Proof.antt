@@ -4,10 +4,10 @@ use Rattle.console.proofs.calls.call_of.Statement.{statement}
 use Rattle.console.proofs.calls.call_of.Tie as tie
 
 abbrev Inv-loop : tie.InvT-loop
-Inv-loop line table call₀ call = (call ≤ 24)
+Inv-loop line table call₀ call = (call ≤ 31)
 
 abbrev μ-loop : tie.MeasureT-loop
-μ-loop line table call₀ call = 24 - call
+μ-loop line table call₀ call = 31 - call
 
 loop-holds : tie.Need-loop-holds Inv-loop μ-loop
 loop-holds c = search needs
