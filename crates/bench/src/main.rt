@@ -4,6 +4,8 @@
 // 16 KB; 9: running the first 100 bytes of one; 10: the listing of 6's; 13, 14: reading a
 // design of 64, 32 KB. Anything else, and no line at all, does nothing. `bench/peer.c`
 // does the same in plain C.
+#![tactic(auto)]
+
 ghost use Rattle.std.specs.Prelude.{◌≤◌};
 
 use moves::Turn;
@@ -25,7 +27,7 @@ fn wide(x: u32) -> u64 {
 
 // ---- 1 and 2
 
-#[derive(Drop)]
+#[derive(Clone, Copy)]
 struct Going {
     run: Run,
     sum: u64,
@@ -330,7 +332,7 @@ fn designs_read(size: u16, n: u64) -> u64 {
 
 // ---- the line
 
-#[derive(Drop)]
+#[derive(Clone, Copy)]
 struct Number {
     value: u64,
     at: usize,

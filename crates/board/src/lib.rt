@@ -1,6 +1,8 @@
 // The moving part of any layered network as it stands, by value: toggles, exit counts, token places and entered; and whether it is
 // sound. Width and depth come from the caller; nothing here knows a construction. Of a lent array a `requires` asks its length,
 // which is not known behind a reference.
+#![tactic(auto)]
+
 ghost use Rattle.std.specs.Prelude.{◌≡◌, not, ◌+◌, ◌*◌, ◌/◌, ◌<◌, ◌≤◌, eqb, length, drop};
 ghost use Rattle.board.specs.Board.{free_place, fresh_board};
 ghost use Rattle.board.specs.Sound.{all, sum_of, place_ok, is_zero, itself, inside_one, sound_board};
@@ -23,7 +25,7 @@ pub const CELLS: usize = 1152;
 // ---- the record
 
 // Where a token is; while it is free, level 0 and wire 0.
-#[derive(Drop)]
+#[derive(Clone, Copy)]
 pub struct Place {
     pub inside: bool,
     pub level: u16,
@@ -31,7 +33,7 @@ pub struct Place {
 }
 
 // The toggle of cell c in layer L stands at L · (w/2) + c; false is up.
-#[derive(Drop)]
+#[derive(Clone, Copy)]
 pub struct Board {
     pub entered: u32,
     pub counts: [u32; EXITS],

@@ -1,5 +1,7 @@
 // Every public call of the cabinet's software by a line of text: for a fitter at the bench, and for tests. Each line of
 // standard input has one line for an answer; a line that is no call is answered `?` and changes nothing.
+#![tactic(auto)]
+
 ghost use Rattle.std.specs.Prelude.{◌≤◌, ◌≡◌, length};
 ghost use Rattle.console_lines.specs.Bounds.{Held};
 
@@ -14,7 +16,7 @@ use run::Run;
 use small::Cabinet;
 
 // What the console holds besides the bytes of the feed sheet: a record of each product, and how many bytes that sheet has.
-#[derive(Drop)]
+#[derive(Clone, Copy)]
 struct Holding {
     run: Run,
     feed: FeedRun,
@@ -23,7 +25,7 @@ struct Holding {
 }
 
 // What the console holds after a line, and where the answer ends.
-#[derive(Drop)]
+#[derive(Clone, Copy)]
 struct Told {
     holding: Holding,
     end: usize,

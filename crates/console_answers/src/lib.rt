@@ -1,4 +1,6 @@
 // What the console answers: a line, put into the front of a lent text, and sent. A put answers where the line ends.
+#![tactic(auto)]
+
 ghost use Rattle.text.specs.Text.{Puts};
 ghost use Rattle.console_answers.specs.Answers.{refusal_line, head_of, values_line, bytes_line, numbers_line};
 

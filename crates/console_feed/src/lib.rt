@@ -1,5 +1,7 @@
 // The console's calls on the run over a feed sheet that it holds, and on that sheet, which it lends to them. A line is the call that
 // it is handed to; its answer is put into the front of a lent text. A call that changes the run gives the run after it.
+#![tactic(auto)]
+
 ghost use Rattle.text.specs.Text.{Puts};
 ghost use Rattle.feeds.specs.Feeds.{feed_sound};
 ghost use Rattle.console_record.specs.Record.{record_line};
@@ -10,14 +12,14 @@ use console_lines::{numbers, words};
 use feeds::FeedRun;
 
 // How many bytes the feed sheet has after a call, and where its answer ends.
-#[derive(Drop)]
+#[derive(Clone, Copy)]
 pub struct Fed {
     pub count: usize,
     pub end: usize,
 }
 
 // The run after a call, and where its answer ends.
-#[derive(Drop)]
+#[derive(Clone, Copy)]
 pub struct Answered {
     pub run: FeedRun,
     pub end: usize,

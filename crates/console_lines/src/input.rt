@@ -8,7 +8,7 @@ use libc::STDIN_FILENO;
 
 // What the buffer holds: a line from `from` to `end`, and what is read in and not yet taken, up to `to`. While a line is
 // sought, no line feed stands before `end`.
-#[derive(Drop)]
+#[derive(Clone, Copy)]
 pub struct Lines {
     pub from: usize,
     pub end: usize,

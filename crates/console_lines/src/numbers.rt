@@ -4,7 +4,7 @@ ghost use Rattle.console_lines.specs.Digits.{DigitIs, NoNumber, NumberIs, is_num
 ghost use Rattle.console_lines.specs.Hex.{HexIs, HexPut};
 
 // A number that was read; where the text spells none, 0.
-#[derive(Drop)]
+#[derive(Clone, Copy)]
 pub struct Number {
     pub ok: bool,
     pub value: u64,

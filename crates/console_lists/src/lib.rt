@@ -1,5 +1,7 @@
 // The lists of a record, from text: entries with commas between them, their indexes within the record and strictly rising; `-` is
 // no entry. A list is exit counts (c), toggles that are down (t) or places of tokens (p), and these name a board; or dials (d).
+#![tactic(auto)]
+
 ghost use Rattle.std.specs.Prelude.{◌≡◌, ◌+◌, false};
 ghost use Rattle.console_lines.specs.Marked.{part_at};
 ghost use Rattle.console_lines.specs.Words.{long_at};
@@ -10,14 +12,14 @@ use board::{Board, Place};
 use console_lines::{numbers, parts, words};
 
 // The board with what a list names; `ok` says whether the text was such a list.
-#[derive(Drop)]
+#[derive(Clone, Copy)]
 pub struct Listed {
     pub ok: bool,
     pub board: Board,
 }
 
 // The board with an entry, and the least index of the next one; 0 where the entry is refused.
-#[derive(Drop)]
+#[derive(Clone, Copy)]
 struct Stored {
     next: usize,
     board: Board,
@@ -82,7 +84,7 @@ fn toggle(entry: &[u8], least: usize, mut board: Board) -> Stored
 }
 
 // The place that a text spells as `INSIDE/LEVEL/WIRE`; `ok` says whether it does.
-#[derive(Drop)]
+#[derive(Clone, Copy)]
 struct Seated {
     ok: bool,
     place: Place,

@@ -1,4 +1,6 @@
 // The console's call on a design. A line is the call that it is handed to, and its answer is put into the front of a lent text.
+#![tactic(auto)]
+
 ghost use Rattle.text.specs.Text.{Puts};
 ghost use Rattle.console_panel.specs.Panel.{panel_line, PanelAnswered};
 

@@ -1,6 +1,8 @@
 // A record as text, put into a lent text: `W C ENTERED COUNTS TOGGLES PLACES` of a run record, and with the depth in place of the
 // construction that of a run over a feed sheet; that of a small cabinet goes on with its dials. Of its lists, only what differs from an
 // opening.
+#![tactic(auto)]
+
 ghost use Rattle.std.specs.Prelude.{◌≡◌};
 ghost use Rattle.text.specs.Text.{Puts};
 ghost use Rattle.text.specs.Lists.{entry_if};

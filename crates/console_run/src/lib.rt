@@ -1,6 +1,8 @@
 // The console's calls on the run that it holds, and the answers that calls on a run over a feed sheet and on a small cabinet have too.
 // A line is the call that it is handed to; its answer is put into the front of a lent text. A call that changes the run gives the run
 // after it.
+#![tactic(auto)]
+
 ghost use Rattle.std.specs.Prelude.{◌≡◌, cond, replicate};
 ghost use Rattle.text.specs.Text.{letters, Puts};
 ghost use Rattle.run.specs.Run.{sound};
@@ -12,7 +14,7 @@ use moves::Turn;
 use run::Run;
 
 // The run after a call, and where its answer ends.
-#[derive(Drop)]
+#[derive(Clone, Copy)]
 pub struct Answered {
     pub run: Run,
     pub end: usize,

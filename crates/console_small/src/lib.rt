@@ -1,5 +1,7 @@
 // The console's calls on the small cabinet that it holds, and the highest number dealt. A line is the call that it is handed to; its
 // answer is put into the front of a lent text. A call that changes the cabinet gives the cabinet after it.
+#![tactic(auto)]
+
 ghost use Rattle.text.specs.Text.{Puts};
 ghost use Rattle.console_run.specs.Calls.{Answers};
 ghost use Rattle.console_small.specs.Record.{small_line};
@@ -13,7 +15,7 @@ use dials::Top;
 use small::Cabinet;
 
 // The cabinet after a call, and where its answer ends.
-#[derive(Drop)]
+#[derive(Clone, Copy)]
 pub struct Answered {
     pub cabinet: Cabinet,
     pub end: usize,

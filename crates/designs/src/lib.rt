@@ -1,4 +1,6 @@
 // What the records of a design are refused for, by themselves. Every call answers every argument.
+#![tactic(auto)]
+
 ghost use Rattle.std.specs.Prelude.{◌≡◌, get_or};
 ghost use Rattle.designs.specs.Records.{length_fits, head_no};
 ghost use Rattle.designs.specs.Leaves.{cross_no};
@@ -8,7 +10,7 @@ use feed_sheet::{in_limits, is_permutation};
 use records::field_of_two;
 
 // Why a design is refused: the number, the offset of the record refused, and how many bytes of it are present where it is cut, else 0.
-#[derive(Drop)]
+#[derive(Clone, Copy)]
 pub struct Fault {
     pub refusal: u8,
     pub offset: usize,

@@ -1,12 +1,14 @@
 // A dial of 16 bits at an exit of the small cabinet, which goes round from 65,535 to 0, with its last reading and the sum of its
 // yields, which goes round at 2^32; and the desk's working out of the highest number dealt, from the sums of all exits.
+#![tactic(auto)]
+
 ghost use Rattle.std.specs.Prelude.{◌≡◌, ◌<◌, ◌≤◌};
 ghost use Rattle.dials.specs.Dials.{open_dial, advance_of, poll_of};
 ghost use Rattle.dials.specs.Highest.{larger, past_at, past_below, highest_of};
 
 use board::EXITS;
 
-#[derive(Drop)]
+#[derive(Clone, Copy)]
 pub struct Dial {
     pub now: u16,
     pub last: u16,
@@ -14,14 +16,14 @@ pub struct Dial {
 }
 
 // What a poll gives: its yield, and the dial after it.
-#[derive(Drop)]
+#[derive(Clone, Copy)]
 pub struct Polled {
     pub yielded: u16,
     pub dial: Dial,
 }
 
 // The highest number dealt, or that nothing was dealt.
-#[derive(Drop)]
+#[derive(Clone, Copy)]
 pub enum Top {
     Number(u64),
     Nothing,

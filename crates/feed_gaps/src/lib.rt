@@ -1,4 +1,6 @@
 // The gap list of a run over a feed sheet: the missing numbers below entered. It is lent no sheet.
+#![tactic(auto)]
+
 ghost use Rattle.gaps.specs.Gaps.{GapsIs};
 ghost use Rattle.feeds.specs.Feeds.{feed_sound};
 

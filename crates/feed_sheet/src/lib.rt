@@ -1,5 +1,7 @@
 // A feed sheet, lent and only read: whether a row is a permutation, how the sheet is judged for a width and a depth, and where it
 // sends a wire. Every call answers every argument.
+#![tactic(auto)]
+
 ghost use Rattle.std.specs.Prelude.{◌≡◌, not, ◌+◌, ◌*◌, ◌<◌, ◌≤◌, length};
 ghost use Rattle.feed_sheet.specs.Limits.{in_limits, permutation};
 ghost use Rattle.feed_sheet.specs.Sheet.{unpaired, fed_at, rows_ok, feed_no};

@@ -1,5 +1,7 @@
 // Runs over a feed sheet, by value: opened, entered and turned. The sheet is lent to each call and only read; a call that its sheet
 // or its own order refuses gives the record back as it was. Every call answers every argument.
+#![tactic(auto)]
+
 ghost use Rattle.std.specs.Prelude.{◌≡◌, true};
 ghost use Rattle.feed_sheet.specs.Sheet.{feed_no};
 ghost use Rattle.feeds.specs.Feeds.{fresh_feed, feed_open_of, feed_sound, with_board, lent_no, feed_enter_of, feed_turn_of};
@@ -7,26 +9,26 @@ ghost use Rattle.feeds.specs.Feeds.{fresh_feed, feed_open_of, feed_sound, with_b
 use board::Board;
 use moves::{Moved, Turn};
 
-#[derive(Drop)]
+#[derive(Clone, Copy)]
 pub struct FeedRun {
     pub width: u16,
     pub depth: u16,
     pub board: Board,
 }
 
-#[derive(Drop)]
+#[derive(Clone, Copy)]
 pub struct FeedOpened {
     pub refusal: u8,
     pub run: FeedRun,
 }
 
-#[derive(Drop)]
+#[derive(Clone, Copy)]
 pub struct FeedEntered {
     pub refusal: u8,
     pub run: FeedRun,
 }
 
-#[derive(Drop)]
+#[derive(Clone, Copy)]
 pub struct FeedTurned {
     pub answer: Turn,
     pub run: FeedRun,

@@ -1,6 +1,8 @@
 // The gap list of a run: the missing numbers below entered, which is at most 1,000,000 where the record is sound. The list's
 // length is worked out from the shares of the exits, so that a slice that is too short is refused before anything is written; the
 // list is then written in one walk over the numbers.
+#![tactic(auto)]
+
 ghost use Rattle.std.specs.Prelude.{◌≡◌, ◌-◌, ◌≤◌, ◌<◌, length};
 ghost use Rattle.order.specs.Order.{over};
 ghost use Rattle.board.specs.Board.{max_entered};

@@ -1,6 +1,8 @@
 // The calls on a run that is known to be sound, in place: its toggles, its exit counts and the places of its tokens are arrays of
 // numbers, lent to each step, and what is no array goes by value in a frame. The places that the wires feed stand in a table that is
 // filled as the run opens, so that a turn reads one byte of it. Who calls keeps frame and arrays together; no step refuses by 9.
+#![tactic(auto)]
+
 ghost use Rattle.std.specs.Prelude.{◌≡◌, ◌<◌, ◌≤◌, length, get_or};
 ghost use Rattle.board.specs.Board.{free_place};
 ghost use Rattle.in_place.specs.Seats.{seats, Sized, places_in, Seated};
@@ -15,7 +17,7 @@ use moves::Turn;
 pub const TABLE: usize = 2304;
 
 // What of a run is no array, with its depth; `within` counts the tokens inside.
-#[derive(Drop)]
+#[derive(Clone, Copy)]
 pub struct Frame {
     pub width: u16,
     pub construction: u16,
@@ -25,13 +27,13 @@ pub struct Frame {
 }
 
 // What an opening or an enter gives: the refusal number, 0 where it was carried out, and the frame after it.
-#[derive(Drop)]
+#[derive(Clone, Copy)]
 pub struct Entering {
     pub refusal: u8,
     pub frame: Frame,
 }
 
-#[derive(Drop)]
+#[derive(Clone, Copy)]
 pub struct Turning {
     pub answer: Turn,
     pub frame: Frame,

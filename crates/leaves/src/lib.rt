@@ -1,4 +1,6 @@
 // Records without members: one cell, a named network, a cross. Each is read into the grid from a row and a column on.
+#![tactic(auto)]
+
 ghost use Rattle.std.specs.Prelude.{◌≡◌, ◌+◌, ◌≤◌, length, drop};
 ghost use Rattle.network.specs.Widths.{open_no, depth_of};
 ghost use Rattle.records.specs.Fields.{field};
@@ -14,14 +16,14 @@ use designs::{Fault, cross_refusal};
 use grid::{in_order, put_places};
 use records::{field_of_two, present_of};
 
-#[derive(Drop)]
+#[derive(Clone, Copy)]
 pub struct Size {
     pub width: usize,
     pub depth: usize,
 }
 
 // What a record of a design comes to: it is refused, or its panel stands in the grid.
-#[derive(Drop)]
+#[derive(Clone, Copy)]
 pub enum Judged {
     Refused(Fault),
     Made(Size),

@@ -1,5 +1,7 @@
 // The listing program: reads a schedule from standard input and writes its listing to standard output. It stops reading behind
 // byte 65,537, which is enough to refuse by 16 whatever follows.
+#![tactic(auto)]
+
 ghost use Rattle.std.specs.Prelude.{◌≡◌, ◌≤◌, length};
 ghost use Rattle.listing_text.specs.Listing.{listing_of, Whole};
 

@@ -1,5 +1,7 @@
 // The text that the listing program writes. Each `put` lets its text go into a lent buffer as those of `text` do, and answers the
 // place behind it: on a buffer of no use it so tells how much room the text wants.
+#![tactic(auto)]
+
 ghost use Rattle.std.specs.Prelude.{◌≡◌, ◌/◌};
 ghost use Rattle.text.specs.Text.{Puts};
 ghost use Rattle.listing_text.specs.Lines.{three, refused_line, name_of, network_line, report_lines, rest_line};
@@ -8,7 +10,7 @@ ghost use Rattle.listing_text.specs.Listing.{accepted_text, text_of, listing_of,
 use outcome::Outcome;
 
 // What a call that gives a text answers: the refusal number, 0 where it was carried out, the bytes filled, and the room that the text wants.
-#[derive(Drop)]
+#[derive(Clone, Copy)]
 pub struct Listed {
     pub refusal: u8,
     pub bytes: usize,

@@ -2,6 +2,8 @@
 // and the exit come from the caller; nothing here knows a construction. Who calls has judged the board sound: no call here refuses
 // by 9, and a `requires` asks no more than that the token is one, that sums fit, that a place handed in is the token's own, and of
 // a lent array its length, which is not known behind a reference.
+#![tactic(auto)]
+
 ghost use Rattle.std.specs.Prelude.{◌≡◌, true, false, not, [], ◌∷◌, ◌+◌, ◌*◌, ◌/◌, ◌<◌, ◌≤◌, eqb, leb, ltb, length, get_or, set};
 ghost use Rattle.order.specs.Order.{◌⟶◌, first_of};
 ghost use Rattle.board.specs.Board.{max_entered, free_place, place_at, count_at, cell_at};
@@ -11,7 +13,7 @@ ghost use Rattle.moves.specs.Turn.{outlet_of, passing, number_at, dealing};
 use board::{Board, CELLS, EXITS, MAX_ENTERED, MAX_TOKEN, Place, TOKENS};
 
 // What entering gives: the refusal number, 0 where it was carried out, and the board after it.
-#[derive(Drop)]
+#[derive(Clone, Copy)]
 pub struct Boarded {
     pub refusal: u8,
     pub board: Board,
@@ -19,7 +21,7 @@ pub struct Boarded {
 
 // What a turn answers. A pass: the new level and wire, and the cell that was passed, by its layer, which is the level before the
 // turn, its number in the layer and the outlet, 0 the top and 1 the bottom.
-#[derive(Drop)]
+#[derive(Clone, Copy)]
 pub enum Turn {
     Passed {
         level: u16,
@@ -35,7 +37,7 @@ pub enum Turn {
     Refused(u8),
 }
 
-#[derive(Drop)]
+#[derive(Clone, Copy)]
 pub struct Moved {
     pub answer: Turn,
     pub board: Board,

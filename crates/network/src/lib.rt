@@ -1,5 +1,7 @@
 // The wiring of both builds: allowed widths and constructions, depth, the row of a layer, and the place of one wire by itself.
 // Every public call answers every argument: a width that is not allowed has no layers, and a layer that is not there no row.
+#![tactic(auto)]
+
 ghost use Rattle.std.specs.Prelude.{◌≡◌, ℕ, ◌+◌, ◌*◌, ◌^◌, ◌≤◌, ◌<◌, cond, eqb, get_or};
 ghost use Rattle.network.specs.Widths.{width_ok, construction_ok, open_no, levels, depth, depth_b, depth_of};
 ghost use Rattle.network.specs.Wiring.{fed_of, feed_at, last_at, part, bitonic, place};
@@ -17,7 +19,7 @@ pub const PERIODIC: u16 = 2;
 pub const ROW: usize = MAX_WIDTH as usize;
 
 // A layer before two networks of half the width.
-#[derive(Drop)]
+#[derive(Clone, Copy)]
 pub enum Feed {
     Beside,
     Merger,
@@ -25,7 +27,7 @@ pub enum Feed {
 }
 
 // Which of the two a wire goes to, and to which of its wires.
-#[derive(Drop)]
+#[derive(Clone, Copy)]
 pub struct Fed {
     pub second: bool,
     pub wire: usize,

@@ -1,5 +1,7 @@
 // The panel program: reads a design from standard input and writes its feed sheet, or why it is refused, to standard output. It
 // stops reading behind byte 65,537: a design is one record of at most 65,535, and whatever follows is refused alike.
+#![tactic(auto)]
+
 ghost use Rattle.std.specs.Prelude.{◌≡◌, ◌≤◌, length};
 ghost use Rattle.listing_text.specs.Listing.{Whole};
 ghost use Rattle.panel_text.specs.Panel.{panel_of};

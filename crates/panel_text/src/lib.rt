@@ -1,5 +1,7 @@
 // The text that the panel program writes: a design's feed sheet, row by row, or why the design is refused. Each `put` lets its text go
 // into a lent buffer as those of `text` do, and answers the place behind it.
+#![tactic(auto)]
+
 ghost use Rattle.std.specs.Prelude.{◌≡◌, ◌≤◌};
 ghost use Rattle.text.specs.Text.{Puts};
 ghost use Rattle.listing_text.specs.Listing.{Lists};

@@ -1,5 +1,7 @@
 // Composed panels: a design is read once, record by record, into a grid, and the feed sheet is written from the grid.
 // Every public call answers every argument; a refusal changes no lent byte.
+#![tactic(auto)]
+
 ghost use Rattle.std.specs.Prelude.{◌≡◌, Bool, true, false, ◌++◌, ℕ, ◌+◌, ◌*◌, ◌≤◌, length, drop};
 ghost use Rattle.network.specs.Rows.{rows};
 ghost use Rattle.designs.specs.Members.{series, beside};
@@ -16,7 +18,7 @@ use records::field_of_two;
 
 // What reading a design answers: the refusal number, 0 where it was carried out, the offset of the record refused, and how many bytes
 // of it are present where it is cut; the width and the depth of the panel; and how many bytes of the feed sheet were filled.
-#[derive(Drop)]
+#[derive(Clone, Copy)]
 pub struct Answer {
     pub refusal: u8,
     pub offset: usize,
@@ -27,7 +29,7 @@ pub struct Answer {
 }
 
 // The members read so far: is there none, have they equal width (of a series) or depth (of a beside), and their size together.
-#[derive(Drop)]
+#[derive(Clone, Copy)]
 pub struct Sum {
     pub none: bool,
     pub equal: bool,

@@ -1,5 +1,6 @@
 // Writes every sheet, and what bad arguments get, a line each: `sheet WIDTH CONSTRUCTION REFUSAL BYTES HEX`, where HEX is the
 // whole lent buffer after the call, each byte aa before it.
+#![tactic(auto)]
 
 fn number(n: u64) {
     io::print_decimal(1, n);

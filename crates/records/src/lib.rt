@@ -1,4 +1,6 @@
 // The records of a schedule: read from bytes and written to bytes. A record carries any field values; only running judges them.
+#![tactic(auto)]
+
 ghost use Rattle.std.specs.Prelude.{◌≡◌, true, false, ◌++◌, ◌+◌, ◌≤◌, length, get_or};
 ghost use Rattle.records.specs.Fields.{field, bytes_in, placed};
 ghost use Rattle.records.specs.Reading.{length_of, record_in, read_no, present_of, read_of};
@@ -6,7 +8,7 @@ ghost use Rattle.records.specs.Writing.{kind_of, fields_of, size_of, bytes_of, W
 
 use order::Filled;
 
-#[derive(Drop)]
+#[derive(Clone, Copy)]
 pub enum Record {
     Open { width: u16, construction: u16 },
     Enter { token: u16, wire: u16 },
@@ -15,7 +17,7 @@ pub enum Record {
     Number { token: u16, wire: u16, number: u32 },
 }
 
-#[derive(Drop)]
+#[derive(Clone, Copy)]
 pub enum Read {
     // The record, and its length.
     Got(Record, usize),

@@ -1,5 +1,7 @@
 // A run of a build, by value: opened, entered and turned. Every call answers every argument; a refused call gives the record
 // back as it was.
+#![tactic(auto)]
+
 ghost use Rattle.std.specs.Prelude.{◌≡◌, true, ◌<◌};
 ghost use Rattle.network.specs.Widths.{depth_of};
 ghost use Rattle.network.specs.Rows.{place_of};
@@ -9,33 +11,33 @@ ghost use Rattle.run.specs.Run.{fresh, open_of, sound, with_board, enter_of, tur
 use board::{Board, Place};
 use moves::{Moved, Turn};
 
-#[derive(Drop)]
+#[derive(Clone, Copy)]
 pub struct Run {
     pub width: u16,
     pub construction: u16,
     pub board: Board,
 }
 
-#[derive(Drop)]
+#[derive(Clone, Copy)]
 pub struct Opened {
     pub refusal: u8,
     pub run: Run,
 }
 
-#[derive(Drop)]
+#[derive(Clone, Copy)]
 pub struct Entered {
     pub refusal: u8,
     pub run: Run,
 }
 
-#[derive(Drop)]
+#[derive(Clone, Copy)]
 pub struct Turned {
     pub answer: Turn,
     pub run: Run,
 }
 
 // The constants of a run, as a value that a contract can speak of.
-#[derive(Drop)]
+#[derive(Clone, Copy)]
 struct Limits {
     width: u16,
     entered: u32,

@@ -1,6 +1,8 @@
 // Running a schedule over lent bytes, in one pass: its records are carried out in place, over arrays that stay where they are, and its
 // reports are gathered in a buffer that has room for those of any schedule. Where the schedule is accepted and the lent output has
 // room, they are copied to it.
+#![tactic(auto)]
+
 ghost use Rattle.std.specs.Prelude.{◌≡◌, ◌++◌, ◌≤◌, length, take, drop};
 ghost use Rattle.moves.specs.Answer.{values_of};
 ghost use Rattle.in_place.specs.Seats.{seats};
@@ -21,7 +23,7 @@ use records::{Read, Record};
 
 // Where a schedule stands: phase 0 before the open, 1 after it, 2 after the close; what of its run is no array; the bytes of its
 // reports so far.
-#[derive(Drop)]
+#[derive(Clone, Copy)]
 struct Stage {
     phase: u8,
     frame: Frame,
@@ -29,7 +31,7 @@ struct Stage {
 }
 
 // What a record leaves: its refusal number, 0 where it was carried out, and where the schedule stands then.
-#[derive(Drop)]
+#[derive(Clone, Copy)]
 struct Served {
     number: u8,
     stage: Stage,

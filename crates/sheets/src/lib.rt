@@ -1,5 +1,7 @@
 // The sheet of a network, and the view of one row of a lent sheet.
 // Every call answers every argument; a refusal changes no lent byte.
+#![tactic(auto)]
+
 ghost use Rattle.std.specs.Prelude.{◌≡◌, ◌*◌, ◌≤◌, ◌++◌, length, take, drop};
 ghost use Rattle.network.specs.Widths.{open_no, depth_of};
 ghost use Rattle.network.specs.Rows.{place_of, rows};

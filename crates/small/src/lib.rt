@@ -1,5 +1,7 @@
 // The small cabinet, by value: a run, and a dial at each exit. Opened, entered, turned and polled. Every call answers every
 // argument; a refused call gives the record back as it was.
+#![tactic(auto)]
+
 ghost use Rattle.std.specs.Prelude.{◌≡◌, ◌<◌};
 ghost use Rattle.moves.specs.Answer.{values_of};
 ghost use Rattle.small.specs.Small.{advanced_at, polled_at, dial_at, open_small, enter_small, dials_after, turn_small, poll_no, poll_small};
@@ -9,32 +11,32 @@ use dials::Dial;
 use moves::Turn;
 use run::Run;
 
-#[derive(Drop)]
+#[derive(Clone, Copy)]
 pub struct Cabinet {
     pub run: Run,
     pub dials: [Dial; EXITS],
 }
 
-#[derive(Drop)]
+#[derive(Clone, Copy)]
 pub struct Opened {
     pub refusal: u8,
     pub cabinet: Cabinet,
 }
 
-#[derive(Drop)]
+#[derive(Clone, Copy)]
 pub struct Entered {
     pub refusal: u8,
     pub cabinet: Cabinet,
 }
 
-#[derive(Drop)]
+#[derive(Clone, Copy)]
 pub struct Turned {
     pub answer: Turn,
     pub cabinet: Cabinet,
 }
 
 // What a poll gives: the refusal number, the yield, which is 0 where it was refused, and the record after it.
-#[derive(Drop)]
+#[derive(Clone, Copy)]
 pub struct Polled {
     pub refusal: u8,
     pub yielded: u16,

@@ -1,5 +1,7 @@
 // Text, put into a lent buffer. Each `put` lets its text go into the buffer from a place on, as far as the buffer goes, and
 // answers the place behind it: on a buffer of no use it so tells how much room the text wants.
+#![tactic(auto)]
+
 ghost use Rattle.std.specs.Prelude.{◌<◌, ◌≡◌, ◌++◌, ◌∷◌, []};
 ghost use Rattle.text.specs.Text.{next_place, Puts};
 ghost use Rattle.text.specs.Numbers.{decimal, row, hex_digit, hex_pair, hex_text};

@@ -1,5 +1,7 @@
 // The trace program: reads a schedule from standard input and writes its trace to standard output. It stops reading behind byte
 // 65,537, which is enough to refuse by 16 whatever follows.
+#![tactic(auto)]
+
 ghost use Rattle.std.specs.Prelude.{◌≡◌, ◌≤◌, length};
 ghost use Rattle.listing_text.specs.Listing.{Whole};
 ghost use Rattle.trace_text.specs.Trace.{trace_of};

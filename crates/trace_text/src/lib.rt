@@ -1,5 +1,7 @@
 // The text that the trace program writes: a line for each turn of a schedule, in its order, for who follows a request through the
 // cabinet. Each `put` lets its text go into a lent buffer as those of `text` do, and answers the place behind it.
+#![tactic(auto)]
+
 ghost use Rattle.std.specs.Prelude.{◌≡◌};
 ghost use Rattle.text.specs.Text.{Puts};
 ghost use Rattle.listing_text.specs.Listing.{Lists};
