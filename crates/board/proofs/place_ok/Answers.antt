@@ -5,8 +5,7 @@ use Prim.Native.Nat.{ℕ}
 use lib.Dec.{leb, ltb, eqb}
 use Rattle.board.specs.declared.Place.{Place}
 use Rattle.board.specs.Sound.{place_ok}
-use Rattle.board.proofs.place_ok.Statement.{statement}
-use Rattle.board.proofs.place_ok.Tie as tie
+use Rattle.board.proofs.place_ok.Goals as goal
 
 or-false : (b : Bool) → b ≡ (b || false)
 or-false true = refl
@@ -18,15 +17,12 @@ inside-ok w d p e = rw e (or-false _)
 free-ok : (w d : ℕ) (p : Place) → p.inside ≡ false → (eqb p.level 0 && eqb p.wire 0) ≡ place_ok w d p
 free-ok w d p e = rw e
 
-returns : tie.Need-returns
+pub returns-then-p : goal.returns-then-p
+returns-then-p c =
+    let a = c.args in
+    inside-ok a.width a.depth a.p c.if-p.true
+
+pub returns : goal.returns
 returns c =
-    let a = c.before.before.before.args in
-    inside-ok a.width a.depth a.p c.before.before.if1.true
-
-returns-2 : tie.Need-returns-2
-returns-2 c =
-    let a = c.before.before.before.args in
-    free-ok a.width a.depth a.p c.before.before.if1.false
-
-pub place-ok-spec : {M : Type 1} → statement M
-place-ok-spec = tie.close (tie.spec returns returns-2)
+    let a = c.args in
+    free-ok a.width a.depth a.p c.if-p.false
