@@ -57,6 +57,7 @@ pub fn field_of_four(bytes: &[u8], at: usize) -> u32
 }
 
 // The length of a record of a kind, 0 where there is no such kind.
+#[tactic(auto, unfolding(crate::specs::Reading::length_of))]
 fn length_of(kind: u16) -> u16
     ensures { result ≡ length_of kind }
 {
@@ -71,6 +72,7 @@ fn length_of(kind: u16) -> u16
 }
 
 // The record of a kind whose fields stand behind the head.
+#[tactic(auto, unfolding(crate::specs::Reading::record_in))]
 fn record_in(kind: u16, bytes: &[u8]) -> Record
     ensures { result ≡ record_in kind bytes.now }
 {
