@@ -1,16 +1,14 @@
 -- Every panel that is read is fair: width 1 to 64, depth at most 36, an even width where there are cells, and each row a
 -- permutation. And the feed sheet of a named network is its sheet and a row in order. Assumes nothing.
-use mathlib.Core.Path.{◌≡◌, refl, sym, ap, ◌∙◌}
-use mathlib.Core.Bool.{Bool, true, false, not, cond, ◌&&◌}
+use mathlib.Core.Path.{◌≡◌, refl}
+use mathlib.Core.Bool.{Bool, true, false, not, cond}
 use mathlib.Core.List.{List, [], ◌∷◌, ◌++◌}
-use mathlib.Core.Logic.{⊎_elim}
-use Prim.Native.Nat.{ℕ, zero, suc, ◌+◌, ◌%◌, ◌<◌, ◌≤◌}
+use Prim.Native.Nat.{ℕ, zero, suc, ◌+◌, ◌<◌}
 use native.Mathlib.Omega.{arith}
 use native.Mathlib.Numerals.{add-one}
-use lib.Dec.{ltb, leb, eqb}
+use lib.Dec.{ltb, eqb}
 use lib.ListN.{length, drop}
-use borrow.Author.Tests.{lt-ltb, le-ltb, ltb-true, leb-true, eqb-true, not-false}
-use Rattle.order.specs.Order.{first_of}
+use borrow.Author.Tests.{lt-ltb, le-ltb, ltb-true, eqb-true, not-false}
 use Rattle.order.proofs.Order.{cleared}
 use Rattle.network.specs.Widths.{open_no, depth_of}
 use Rattle.network.specs.Rows.{tabulate, rows, place_of, sheet_of}
@@ -19,13 +17,13 @@ use Rattle.network.proofs.Widths.{allowed, width_some, width_small, depth_of_sma
 use Rattle.network.proofs.Rows.{place_of_once}
 use Rattle.network.proofs.Once.{Once}
 use Rattle.records.specs.Fields.{field}
-use Rattle.records.specs.Reading.{length_in, kind_in}
+use Rattle.records.specs.Reading.{kind_in}
 use Rattle.designs.specs.declared.Fault.{Fault}
 use Rattle.designs.specs.Panels.{Panel, cell, named, cross, feed_sheet}
 use Rattle.designs.specs.Members.{Joint, series, beside, joined, all_equal}
 use Rattle.feed_sheet.specs.Limits.{in_limits, permutation}
 use Rattle.designs.specs.Records.{behind, head_no}
-use Rattle.designs.specs.Leaves.{Read, refused, made, fault, judged, cross_no, leaf_of}
+use Rattle.designs.specs.Leaves.{Read, refused, made, judged, cross_no, leaf_of}
 use Rattle.designs.specs.Designs.{Members, stopped, all, first, members_in, size_no, joined_at, body_of, record_at, design_of}
 use Rattle.designs.specs.PanelsRead.{PanelsRead}
 use Rattle.feed_sheet.proofs.Permutations.{permutation_once, once_permutation}

@@ -1,18 +1,15 @@
 -- Laws of members in bytes: a list of members is read one after another, and what was read before stays in front. Assumes nothing.
-use mathlib.Core.Path.{◌≡◌, refl, sym, ap, ◌∙◌}
-use mathlib.Core.Bool.{Bool, true, false, cond}
+use mathlib.Core.Path.{◌≡◌, refl, sym, ap}
 use mathlib.Core.List.{List, [], ◌∷◌, ◌++◌, append_assoc}
-use Prim.Native.Nat.{ℕ, zero, suc, ◌+◌, ◌-◌, ◌<◌, ◌≤◌}
+use Prim.Native.Nat.{ℕ, zero, suc, ◌+◌, ◌-◌, ◌≤◌}
 use native.Mathlib.Omega.{arith}
-use lib.Dec.{eqb}
 use lib.ListN.{length, drop}
-use borrow.Author.Tests.{eq-eqb, ne_eqb}
+use borrow.Author.Tests.{ne_eqb}
 use Rattle.records.specs.Reading.{length_in}
 use Rattle.designs.specs.declared.Fault.{Fault}
 use Rattle.designs.specs.Panels.{Panel}
-use Rattle.designs.specs.Members.{Joint}
 use Rattle.designs.specs.Leaves.{Read, refused, made}
-use Rattle.designs.specs.Designs.{Members, stopped, all, first, members_in, joined_at}
+use Rattle.designs.specs.Designs.{Members, stopped, all, first, members_in}
 
 -- members that were read before, in front
 unfoldable pub after : List Panel → Members → Members

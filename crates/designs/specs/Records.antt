@@ -1,5 +1,5 @@
 -- The records of a design, and why the head of one is refused (02, P3). Definitions only. Assumes nothing.
-use Rattle.std.specs.Prelude.{ℕ, ◌+◌, ◌-◌, Bool, true, not, cond, ◌&&◌, List, [], ◌∷◌, ltb, leb, eqb, length, get_or, take, drop}
+use Rattle.std.specs.Prelude.{ℕ, ◌+◌, ◌-◌, Bool, not, cond, ◌&&◌, List, [], ◌∷◌, ltb, leb, eqb, length, get_or, take, drop}
 use Rattle.order.specs.Order.{◌⟶◌, first_of}
 use Rattle.records.specs.Reading.{length_in, kind_in}
 

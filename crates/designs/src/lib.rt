@@ -25,6 +25,7 @@ fn fifth_of(bytes: &[u8]) -> u8
 }
 
 // Is that the length of a record of the kind, whose fifth byte is given?
+#[tactic(auto, unfolding(crate::specs::Records::length_fits))]
 fn length_fits(kind: u16, size: u16, fifth: u8) -> bool
     ensures { result ≡ length_fits kind size fifth }
 {
