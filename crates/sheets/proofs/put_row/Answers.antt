@@ -1,6 +1,5 @@
 -- `sheets::put_row` meets its contract: the bytes passed are the row's. The measure is the bytes left. Assumes nothing.
 use mathlib.Core.Path.{refl}
-use Prim.Native.Nat.{◌-◌}
 use native.Mathlib.Omega.{arith}
 use lib.ListN.{length-set}
 use Rattle.sheets.proofs.Sheets.{copy_more, copy_all}

@@ -3,7 +3,7 @@
 use mathlib.Core.Path.{◌≡◌, refl, ◌∙◌}
 use Prim.Native.Nat.{ℕ, ◌≤◌, ◌<◌, ◌-◌, ◌*◌, ◌+◌}
 use native.Mathlib.Omega.{arith}
-use lib.ListN.{length, take, drop}
+use lib.ListN.{length}
 use borrow.Rule.Slice.PartMut.{same_len_mid}
 use Rattle.network.specs.Widths.{depth_of}
 use Rattle.network.specs.Rows.{place_of}
@@ -25,7 +25,7 @@ pub put_row-requires : goal.put_row-requires
 put_row-requires c =
     let w : ℕ = c.args.width in
     let long = part_long (c.loop-layer.layer * w) w c.loop-layer.out (omega (arith, row_end c.loop-layer.layer c.args.depth w c.loop-layer-test.true)) in
-    rw long (layered _ _ _ (let h : c.loop-layer.layer < depth_of c.args.width c.args.construction = rw c.requires.0 at c.loop-layer-test.true in h)).small (layered _ _ _ (let h : c.loop-layer.layer < depth_of c.args.width c.args.construction = rw c.requires.0 at c.loop-layer-test.true in h)).small
+    rw long ((layered c.args.width c.args.construction c.loop-layer.layer (rw c.requires.0 at c.loop-layer-test.true)).small)
 
 pub loop-layer-preserved : goal.loop-layer-preserved
 loop-layer-preserved c =

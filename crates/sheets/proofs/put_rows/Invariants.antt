@@ -2,7 +2,7 @@
 -- layers left. Assumes nothing.
 use mathlib.Core.Path.{◌≡◌}
 use mathlib.Core.List.{◌++◌}
-use Prim.Native.Nat.{◌≤◌, ◌-◌, ◌*◌, ◌+◌}
+use Prim.Native.Nat.{◌≤◌, ◌-◌, ◌*◌}
 use lib.ListN.{length, drop}
 use Rattle.network.specs.Rows.{place_of, rows}
 use Rattle.sheets.proofs.put_rows.Given as goal

@@ -15,12 +15,18 @@ returns-then-view_check-ne0 c =
     }
 
 pub overflow_mul-at : goal.overflow_mul-at
-overflow_mul-at c = omega (arith, (let h : c.args.layer * c.args.width + c.args.width ≤ length c.args.sheet.now = let s = c.args in
-    view_within s.width s.construction s.layer _ (sym c.view_check.ensures ∙ c.if-view_check-ne0.false) in h))
+overflow_mul-at c = omega (
+  arith,
+  (let h : c.args.layer * c.args.width + c.args.width ≤ length c.args.sheet.now = let s = c.args in
+      view_within s.width s.construction s.layer _ (sym c.view_check.ensures ∙ c.if-view_check-ne0.false) in h),
+)
 
 pub overflow_add-end : goal.overflow_add-end
-overflow_add-end c = omega (arith, (let h : c.args.layer * c.args.width + c.args.width ≤ length c.args.sheet.now = let s = c.args in
-    view_within s.width s.construction s.layer _ (sym c.view_check.ensures ∙ c.if-view_check-ne0.false) in h))
+overflow_add-end c = omega (
+  arith,
+  (let h : c.args.layer * c.args.width + c.args.width ≤ length c.args.sheet.now = let s = c.args in
+      view_within s.width s.construction s.layer _ (sym c.view_check.ensures ∙ c.if-view_check-ne0.false) in h),
+)
 
 pub slice_bounds-result-end-2 : goal.slice_bounds-result-end-2
 slice_bounds-result-end-2 c = ((let h : c.args.layer * c.args.width + c.args.width ≤ length c.args.sheet.now = let s = c.args in
