@@ -4,10 +4,9 @@ use Rattle.network.specs.Widths.{width_ok, construction_ok}
 use Rattle.network.specs.Wiring.{place}
 use Rattle.network.proofs.Widths.{width_small}
 use Rattle.board.specs.Sound.{few_entered}
-use Rattle.run.proofs.constants.Statement.{statement}
-use Rattle.run.proofs.constants.Tie as tie
+use Rattle.run.proofs.constants.Goals as goal
 
-returns : tie.Need-returns
+pub returns : goal.returns
 unfolding width_ok construction_ok place few_entered
 returns c =
     record {
@@ -18,6 +17,3 @@ returns c =
       builds_bitonic = λ k L v. refl;
       builds_periodic = λ k L v. refl;
     }
-
-pub constants-spec : {M : Type 1} → statement M
-constants-spec = tie.close (tie.spec returns)
