@@ -1,12 +1,10 @@
 -- Panels in the grid: row after row is put in, and a record that is read. Assumes nothing.
 use mathlib.Core.Path.{◌≡◌, refl, sym, ap, ◌∙◌, subst}
-use mathlib.Core.Bool.{Bool, true, false, cond}
 use mathlib.Core.List.{List}
-use Prim.Native.Nat.{ℕ, ◌+◌, ◌-◌, ◌*◌, ◌<◌, ◌≤◌}
+use Prim.Native.Nat.{ℕ, ◌+◌, ◌-◌, ◌<◌, ◌≤◌}
 use native.Mathlib.Nat.{add-zero}
 use native.Mathlib.Omega.{arith}
-use lib.Dec.{eqb}
-use lib.ListN.{length, get_or, take, drop, replicate, length-append, length-drop, length-replicate}
+use lib.ListN.{length, get_or, take, drop, length-append, length-drop, length-replicate}
 use lib.Seq.{get_or-take, length-take-le, ext_get_or, take_all}
 use borrow.Author.Count.{below_more}
 use borrow.Author.Tests.{eq-eqb, ne_eqb, lt-ltb, le-ltb}
@@ -16,13 +14,13 @@ use Rattle.network.proofs.Arrays.{length_tabulate, get_d_tabulate, take_array, a
 use Rattle.network.proofs.Rows.{row_array_is, place_of_below}
 use Rattle.designs.specs.declared.Fault.{Fault}
 use Rattle.designs.specs.Panels.{Panel, named, cross}
-use Rattle.designs.specs.Leaves.{Read, refused, made, fault, judged, cross_no}
+use Rattle.designs.specs.Leaves.{refused, made, fault, judged, cross_no}
 use Rattle.feed_sheet.proofs.Permutations.{distinct→}
 use Rattle.designs.proofs.Fair.{cross_fair}
 use Rattle.leaves.specs.declared.Size.{Size}
 use Rattle.leaves.specs.declared.Judged.{Judged}
 use Rattle.leaves.specs.declared.Judged.TheVariants.{Refused, Made}
-use Rattle.leaves.specs.Grid.{byte_at, Holds, Kept, InRow, Put, PutPanel}
+use Rattle.leaves.specs.Grid.{byte_at, Kept, Put, PutPanel}
 use Rattle.leaves.specs.Told.{size_of, told, told_at, ReadInto}
 use Rattle.leaves.proofs.Filling.{kept_same, kept_row, kept_then}
 

@@ -125,6 +125,7 @@ fn cross(body: &[u8], at: usize, grid: &mut [u8; 2368], row: usize, col: usize) 
 }
 
 // A record without members, of a kind, with the bytes behind its head.
+#[tactic(auto, unfolding(designs::specs::Leaves::leaf_of))]
 pub fn leaf(
     body: &[u8],
     kind: u16,
