@@ -6,16 +6,35 @@ use native.Mathlib.Omega.{arith}
 use mathlib.Core.Path.{◌≡◌, sym, ◌∙◌}
 use mathlib.Core.List.{List}
 use lib.ListN.{length, take, drop, get_or, drop_of_length-le}
-use lib.Seq.{take-length, drop-drop, drop-cons}
+use lib.Seq.{drop-drop, drop-cons}
 use borrow.Author.Tests.{eq-eqb, ne_eqb}
-use Rattle.bytes.specs.Bytes.{index_of, slice}
-use Rattle.console_lines.specs.Marked.{behind, part_at, part_count, PartEnds, PartNext, PartStarts}
+use Rattle.console_lines.specs.Marked.{index_of, index_after, behind, part_at, part_count, PartEnds, PartNext, PartStarts}
 
 module _ (mark : ℕ) (text : List ℕ) where
-  pub part_ends : (from end : ℕ) → end ≡ from + index_of mark (slice from (length text) text) → end ≤ length text → PartEnds mark text from end
-  unfolding slice
-  part_ends from end found high =
-      record { low = omega arith; high = high; at = rw take-length at found }
+  -- a search from `from` on has come to `at`, and passed no mark
+  pub record Sought (from at : ℕ) : Type 0 where
+    pub low : from ≤ at
+    pub high : at ≤ length text
+    pub first : from + index_of mark (drop from text) ≡ at + index_of mark (drop at text)
+
+  pub sought_more : {from at : ℕ} → Sought from at → at < length text → (get_or text at 0 ≡ mark → ⊥) → Sought from (at + 1)
+  unfolding index_of index_after
+  sought_more {from} {at} sought more miss =
+      let past : index_of mark (drop at text) ≡ suc (index_of mark (drop (at + 1) text)) =
+      rw (add-one, drop-cons text at 0 more, ne_eqb (get_or text at 0) mark miss) in
+      record { low = omega (arith, sought.low); high = omega arith; first = omega (arith, sought.first) }
+
+  pub part_ends : {from end : ℕ} → Sought from end → index_of mark (drop end text) ≡ 0 → PartEnds mark text from end
+  part_ends sought found =
+      record { low = sought.low; high = sought.high; at = omega (arith, sought.first) }
+
+  pub found_mark : (at : ℕ) → at < length text → get_or text at 0 ≡ mark → index_of mark (drop at text) ≡ 0
+  unfolding index_of index_after
+  found_mark at more hit = rw (drop-cons text at 0 more, eq-eqb (get_or text at 0) mark hit)
+
+  pub found_end : (at : ℕ) → length text ≤ at → index_of mark (drop at text) ≡ 0
+  unfolding index_of
+  found_end at none = rw (drop_of_length-le text none)
 
   pub next_behind : {from end : ℕ} → PartEnds mark text from end → end < length text → PartNext mark text from (end + 1)
   unfolding behind

@@ -1,6 +1,15 @@
 -- A text in parts that a mark stands between. Definitions only. Assumes nothing.
-use Rattle.std.specs.Prelude.{ℕ, zero, suc, ◌+◌, ◌≤◌, ◌≡◌, cond, List, [], ◌∷◌, eqb, length, take, drop}
-use Rattle.bytes.specs.Bytes.{index_of}
+use Rattle.std.specs.Prelude.{ℕ, zero, suc, ◌+◌, ◌≤◌, ◌≡◌, Bool, true, false, cond, List, [], ◌∷◌, eqb, length, take, drop}
+
+-- where the first mark stands, given whether it stands here, and where it stands in the rest
+unfoldable pub index_after : Bool → ℕ → ℕ
+index_after true rest = 0
+index_after false rest = suc rest
+
+-- where the first mark of a text stands; the text's length where it has none
+unfoldable pub index_of : ℕ → List ℕ → ℕ
+index_of mark [] = 0
+index_of mark (x ∷ text) = index_after (eqb x mark) (index_of mark text)
 
 -- the text behind its first mark; nothing where it has none
 unfoldable pub behind : ℕ → List ℕ → List ℕ

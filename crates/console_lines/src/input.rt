@@ -1,10 +1,11 @@
-// Lines from standard input, by way of a lent buffer. A line that fills the buffer has no end in it: it is too long, and its
+// Lines from a reader, by way of a lent buffer. A line that fills the buffer has no end in it: it is too long, and its
 // bytes are dropped up to its end. The last line need not end in a line feed.
-ghost use Rattle.std.specs.Prelude.{length};
+ghost use Rattle.std.specs.Prelude.{length, IfOk};
 ghost use Rattle.console_lines.specs.Bounds.{Held};
 
 use crate::parts;
-use libc::STDIN_FILENO;
+use std::io;
+use std::io::Read;
 
 // What the buffer holds: a line from `from` to `end`, and what is read in and not yet taken, up to `to`. While a line is
 // sought, no line feed stands before `end`.
@@ -82,27 +83,25 @@ fn with_room(mut lines: Lines, room: usize) -> Lines
 }
 
 // Reads on, behind what is held.
-fn read_on(input: &mut [u8], mut lines: Lines) -> Lines
+fn read_on<R: Read>(reader: &mut R, input: &mut [u8], mut lines: Lines) -> io::Result<Lines>
     requires { Held lines.from lines.end lines.to (length input.old) }
-    ensures { Held result.from result.end result.to (length input.new) }
+    ensures { IfOk result (λ read. Held read.from read.end read.to (length input.new)) }
 {
     let to = lines.to;
-    let rest = &mut input[to..];
-    let got = libc::read(STDIN_FILENO, rest);
-    let count = io::count(got, rest);
+    let count = streams::read_behind(reader, input, to)?;
     lines.to = to + count;
     lines.at_end = count == 0;
-    lines
+    Ok(lines)
 }
 
 // More of the line that is sought.
-fn more(input: &mut [u8], lines: Lines) -> Lines
+fn more<R: Read>(reader: &mut R, input: &mut [u8], lines: Lines) -> io::Result<Lines>
     requires { Held lines.from lines.end lines.to (length input.old) }
-    ensures { Held result.from result.end result.to (length input.new) }
+    ensures { IfOk result (λ read. Held read.from read.end read.to (length input.new)) }
 {
     let moved = to_front(input, lines);
     let roomy = with_room(moved, input.len());
-    read_on(input, roomy)
+    read_on(reader, input, roomy)
 }
 
 // Seeks the end of the line among what is held: its line feed, or the end of what is held.
@@ -142,23 +141,23 @@ fn last(mut lines: Lines, room: usize) -> Lines
 
 // The next line. A proved loop has to end, and nothing says that the input does: so its turns count down, from a number that
 // no input uses up.
-pub fn next_line(input: &mut [u8], before: Lines) -> Lines
+pub fn next_line<R: Read>(reader: &mut R, input: &mut [u8], before: Lines) -> io::Result<Lines>
     requires { Held before.from before.end before.to (length input.old) }
-    ensures { Held result.from result.end result.to (length input.new) }
+    ensures { IfOk result (λ next. Held next.from next.end next.to (length input.new)) }
 {
     let mut lines = behind(before, input.len());
     let mut turns = u64::MAX;
     while turns > 0 {
         lines = seek(input, lines);
         if lines.end < lines.to {
-            return lines;
+            return Ok(lines);
         }
         if lines.at_end {
-            return last(lines, input.len());
+            return Ok(last(lines, input.len()));
         }
-        lines = more(input, lines);
+        lines = more(reader, input, lines)?;
         turns -= 1;
     }
     lines.done = true;
-    lines
+    Ok(lines)
 }

@@ -3,6 +3,8 @@ ghost use Rattle.std.specs.Prelude.{◌≡◌};
 ghost use Rattle.console_lines.specs.Digits.{DigitIs, NoNumber, NumberIs, is_number};
 ghost use Rattle.console_lines.specs.Hex.{HexIs, HexPut};
 
+use crate::parts;
+
 // A number that was read; where the text spells none, 0.
 #[derive(Clone, Copy)]
 pub struct Number {
@@ -68,7 +70,7 @@ pub fn decimal(text: &[u8], most: u64) -> Number
 pub fn is_hex(text: &[u8]) -> bool
     ensures { HexIs text.now result }
 {
-    if check::same(text, b"-") {
+    if parts::same(text, b"-") {
         return true;
     }
     let mut i = 0;

@@ -1,6 +1,6 @@
 // A text in parts that a mark stands between: the words of a line, the entries of a list, the numbers of an entry. A text
 // with no mark is one part, and a part may be empty.
-ghost use Rattle.std.specs.Prelude.{◌≡◌, ◌≤◌, length};
+ghost use Rattle.std.specs.Prelude.{◌≡◌, ◌≤◌, length, true};
 ghost use Rattle.console_lines.specs.Marked.{PartEnds, PartNext, PartStarts, PartsCounted, part_at};
 
 // Where the part that starts at `from` ends: at the next mark, or at the end of the text.
@@ -8,7 +8,14 @@ pub fn end_of(text: &[u8], from: usize, mark: u8) -> usize
     requires { from ≤ length text.now }
     ensures { PartEnds mark text.now from result }
 {
-    bytes::scan::find(text, from, text.len(), mark)
+    let mut at = from;
+    while at < text.len() {
+        if text[at] == mark {
+            return at;
+        }
+        at += 1;
+    }
+    at
 }
 
 // Where the part behind the one that starts at `from` starts; the end of the text where there is none.
@@ -58,4 +65,12 @@ pub fn part(text: &[u8], mark: u8, k: usize) -> &[u8]
     let from = start_of(text, mark, k);
     let end = end_of(text, from, mark);
     &text[from..end]
+}
+
+// Are two texts the same?
+pub fn same(a: &[u8], b: &[u8]) -> bool
+    ensures alike { result ≡ true → a.now ≡ b.now }
+    ensures known { a.now ≡ b.now → result ≡ true }
+{
+    a == b
 }
