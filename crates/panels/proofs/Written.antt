@@ -1,8 +1,7 @@
 -- What reading a design answers, and the lent sheet after it, by what the outermost record comes to. Assumes nothing.
 use mathlib.Core.Path.{◌≡◌, refl, sym, ap, ◌∙◌}
-use mathlib.Core.Bool.{false}
 use mathlib.Core.List.{List, ◌++◌}
-use Prim.Native.Nat.{ℕ, ◌+◌, ◌*◌, ◌<◌, ◌≤◌}
+use Prim.Native.Nat.{ℕ, ◌+◌, ◌*◌, ◌≤◌}
 use native.Mathlib.Nat.{zero-add}
 use native.Mathlib.Omega.{arith}
 use lib.Dec.{ltb}
@@ -20,7 +19,7 @@ use Rattle.panels.specs.declared.Answer.{Answer}
 use Rattle.leaves.specs.declared.Size.{Size}
 use Rattle.leaves.specs.declared.Judged.TheVariants.{Refused, Made}
 use Rattle.leaves.specs.Grid.{byte_at, Holds}
-use Rattle.leaves.specs.Told.{size_of, told, ReadInto}
+use Rattle.leaves.specs.Told.{ReadInto}
 use Rattle.panels.specs.Answers.{refusal_of, room_no, answer_of, sheet_after, DesignRead}
 use Rattle.panels.proofs.Going.{MadeOf, told_refused, told_made, Small}
 

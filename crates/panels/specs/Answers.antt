@@ -2,7 +2,7 @@
 use Rattle.std.specs.Prelude.{ℕ, ◌+◌, ◌*◌, ◌≡◌, cond, List, [], ◌∷◌, length, ltb, eqb}
 use Rattle.order.specs.Order.{◌⟶◌, first_of, over}
 use Rattle.designs.specs.declared.Fault.{Fault}
-use Rattle.designs.specs.Panels.{Panel, feed_length, feed_sheet}
+use Rattle.designs.specs.Panels.{feed_length, feed_sheet}
 use Rattle.designs.specs.Leaves.{Read, refused, made, fault}
 use Rattle.designs.specs.Designs.{design_of}
 use Rattle.panels.specs.declared.Answer.{Answer}
