@@ -1,13 +1,12 @@
 -- What the design reader writes, a run call takes: `fitted`. In order: a row of a sheet; the judge.
 -- Assumes nothing.
-use mathlib.Core.Path.{◌≡◌, refl, sym, ap, ◌∙◌}
+use mathlib.Core.Path.{◌≡◌, sym, ap, ◌∙◌}
 use mathlib.Core.Bool.{true, false, and-false}
-use mathlib.Core.List.{List, [], ◌++◌, append_assoc}
+use mathlib.Core.List.{List, ◌++◌, append_assoc}
 use Prim.Native.Nat.{ℕ, zero, suc, ◌+◌, ◌*◌, ◌%◌, ◌<◌, ◌≤◌}
-use native.Mathlib.Numerals.{add-one}
 use native.Mathlib.Decide.{ℕ_discrete, dec_lt}
 use native.Mathlib.Omega.{arith}
-use lib.ListN.{length, get_or, take, drop, length-append}
+use lib.ListN.{length, get_or, length-append}
 use lib.Seq.{take_at, drop_at}
 use borrow.Author.Tests.{le-leb, le-ltb, ne_eqb}
 use Rattle.order.specs.Order.{first_of}
@@ -15,12 +14,10 @@ use Rattle.network.specs.Rows.{tabulate, rows}
 use Rattle.network.proofs.Arrays.{length_tabulate, get_d_tabulate}
 use Rattle.network.proofs.Rows.{length_rows}
 use Rattle.feed_sheet.specs.Limits.{in_limits}
-use Rattle.feed_sheet.specs.Sheet.{unpaired, fed_at, row_at, feed_no}
+use Rattle.feed_sheet.specs.Sheet.{unpaired, row_at, feed_no}
 use Rattle.feed_sheet.proofs.Permutations.{once_permutation}
 use Rattle.feed_sheet.proofs.Sheet.{Within, rows_each, judged, row_at_lem}
 use Rattle.designs.specs.Panels.{Panel, feed_sheet}
-use Rattle.designs.specs.Leaves.{made}
-use Rattle.designs.specs.Designs.{design_of}
 use Rattle.designs.proofs.Fair.{Fair, design_fair}
 use Rattle.fitted.specs.Fitted.{Serves, Fitted}
 

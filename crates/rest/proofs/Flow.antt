@@ -1,6 +1,6 @@
 -- Laws of the flow through layers. In order: of cells, of layers, of the flow.
 -- Assumes nothing.
-use Prim.Native.Nat.{ℕ, zero, suc, ◌+◌, ◌-◌, ◌*◌, ◌/◌, ◌%◌, ◌≤◌, ◌<◌}
+use Prim.Native.Nat.{ℕ, zero, suc, ◌+◌, ◌*◌, ◌/◌, ◌%◌, ◌≤◌, ◌<◌}
 use mathlib.Core.Path.{◌≡◌, refl, ap, ap₂, sym, ◌∙◌, fun_ext}
 use mathlib.Core.Logic.{◌≢◌}
 use native.Mathlib.Nat.{add-zero, add-suc, le_step, lt-suc_self}

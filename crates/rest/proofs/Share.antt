@@ -1,6 +1,6 @@
 -- Laws of shares. The first two say when a share is above q; the others go by them.
 -- Assumes nothing.
-use Prim.Native.Nat.{ℕ, zero, suc, ◌+◌, ◌-◌, ◌*◌, ◌/◌, ◌%◌, ◌<◌}
+use Prim.Native.Nat.{ℕ, zero, suc, ◌+◌, ◌*◌, ◌/◌, ◌%◌, ◌<◌}
 use mathlib.Core.Path.{◌≡◌, ap, sym, ◌∙◌}
 use mathlib.Core.Logic.{◌≢◌}
 use native.Mathlib.Nat.{mul-le-mul_right, lt_of_mul-lt-mul_right, le-div_iff_mul-le, div-add-mod', mod-lt, mod-eq_of_lt, mul-add-mod_self_right}
