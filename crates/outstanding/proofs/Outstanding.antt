@@ -3,7 +3,7 @@
 use Prim.Native.Nat.{ℕ, ◌+◌, ◌/◌, ◌%◌, ◌≤◌}
 use mathlib.Core.Path.{◌≡◌, refl, ◌∙◌}
 use mathlib.Core.Bool.{true}
-use mathlib.Core.List.{List, [], ◌∷◌, ◌++◌, Memᴰ}
+use mathlib.Core.List.{List, [], ◌∷◌, ◌++◌}
 use native.Mathlib.Decide.{dec_lt}
 use native.Mathlib.Omega.{arith}
 use borrow.Author.Tests.{le-leb, leb-true, le-ltb}
@@ -17,7 +17,7 @@ use Rattle.gaps.specs.Gaps.{missing, gaps_of, gaps_no}
 use Rattle.gaps.specs.Missing.{MissingBelow}
 use Rattle.gaps.proofs.Gaps.{length_gaps}
 use Rattle.gaps.proofs.Missing.{gaps_are}
-use Rattle.promise.specs.History.{Call, Deal, After, calls_of, history, times}
+use Rattle.promise.specs.History.{Call, Deal, After, calls_of, times}
 use Rattle.promise.specs.Promise.{Promise}
 use Rattle.promise.proofs.Book.{below_yes, below_no, times_append}
 use Rattle.promise.proofs.Builds.{builds_fit}
