@@ -21,7 +21,7 @@ use Rattle.records.specs.declared.Read.{Read}
 use Rattle.records.specs.declared.Read.TheVariants.{Got, Refused as Unread}
 use Rattle.outcome.specs.declared.Outcome.{Outcome}
 use Rattle.outcome.specs.declared.Outcome.TheVariants.{Accepted, Refused}
-use Rattle.outcome.specs.Course.{Course, course, at_start, Step}
+use Rattle.outcome.specs.Course.{Course, at_start, Step}
 use Rattle.outcome.specs.Step.{step_of}
 use Rattle.outcome.specs.Schedule.{Told, stopped, accepted, record_at, tell_from, tell}
 use Rattle.outcome.proofs.Ready.{Ready, ready_start, ready_step}
