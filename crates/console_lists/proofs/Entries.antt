@@ -11,7 +11,7 @@ use lib.Dec.{ltb, leb, eqb}
 use lib.ListN.{length, take, drop, length-drop}
 use lib.Seq.{take-length, drop-drop}
 use borrow.Author.Tests.{ltb-true, lt-ltb, le-ltb, eq-eqb, ne_eqb}
-use Rattle.bytes.specs.Bytes.{index_of, index_after}
+use Rattle.console_lines.specs.Marked.{index_of, index_after}
 use Rattle.console_lines.specs.Digits.{digit_of, all_below, is_number, NumberIs}
 use Rattle.console_lines.specs.Marked.{behind, part_at, part_count, PartEnds, PartsCounted}
 use Rattle.board.proofs.Lists.{and_left, and_right}

@@ -166,7 +166,7 @@ pub fn read(list: u8, text: &[u8], before: Board) -> Listed
     ensures { ListRead list text.now result.ok before.entered result.board.entered }
 {
     let mut board = before;
-    if check::same(text, b"-") {
+    if parts::same(text, b"-") {
         return Listed { ok: true, board };
     }
     let mut least = 0;
