@@ -6,12 +6,13 @@
 // does the same in plain C.
 #![tactic(auto)]
 
-ghost use Rattle.std.specs.Prelude.{◌≤◌};
+ghost use Rattle.std.specs.Prelude.{◌≡◌, ◌≤◌, length};
 
 use moves::Turn;
 use outcome::Outcome;
 use records::{Read, Record};
 use run::Run;
+use std::io;
 
 fn plus(a: u64, b: u64) -> u64 {
     std::num::wrapping_add_u64(a, b)
@@ -78,7 +79,7 @@ fn requests(construction: u16, n: u64) -> u64 {
 // ---- 3 and 4
 
 fn sheets_filled(n: u64) -> u64 {
-    let mut out = [0u8; 4096];
+    let mut out: [u8; 4096] = streams::zeros();
     let mut sum = 0u64;
     let mut i = 0u64;
     while i < n {
@@ -107,9 +108,16 @@ fn lopsided() -> Run {
     x
 }
 
+// So many zeros; see `streams::zeros`.
+fn zeros<const N: usize>() -> [u32; N]
+    ensures { length result ≡ N }
+{
+    [0; N]
+}
+
 fn gaps_listed(n: u64) -> u64 {
     let x = lopsided();
-    let mut out = [0u32; 65536];
+    let mut out: [u32; 65536] = zeros();
     let mut sum = 0u64;
     let mut i = 0u64;
     while i < n {
@@ -155,7 +163,7 @@ fn record_again(i: u64, out: &mut [u8]) -> u64 {
 }
 
 fn records_again(n: u64) -> u64 {
-    let mut out = [0u8; 4096];
+    let mut out: [u8; 4096] = streams::zeros();
     let mut sum = 0u64;
     let mut i = 0u64;
     while i < n {
@@ -257,15 +265,15 @@ fn run_again(bytes: &[u8], size: usize, out: &mut [u8], n: u64) -> u64 {
 }
 
 fn schedules_run(requests: u32, size: usize, n: u64) -> u64 {
-    let mut bytes = [0u8; 65536];
-    let mut out = [0u8; 65536];
+    let mut bytes: [u8; 65536] = streams::zeros();
+    let mut out: [u8; 65536] = streams::zeros();
     put_schedule(requests, &mut bytes);
     run_again(&bytes, size, &mut out, n)
 }
 
 fn schedules_listed(n: u64) -> u64 {
-    let mut bytes = [0u8; 65536];
-    let mut out = [0u8; 65536];
+    let mut bytes: [u8; 65536] = streams::zeros();
+    let mut out: [u8; 65536] = streams::zeros();
     put_schedule(468, &mut bytes);
     let mut sum = 0u64;
     let mut i = 0u64;
@@ -312,7 +320,7 @@ fn read_again(bytes: &[u8], size: usize, n: u64) -> u64 {
     if bytes.len() < size {
         return 0;
     }
-    let mut sheet = [0u8; 2368];
+    let mut sheet: [u8; 2368] = streams::zeros();
     let mut sum = 0u64;
     let mut i = 0u64;
     while i < n {
@@ -325,7 +333,7 @@ fn read_again(bytes: &[u8], size: usize, n: u64) -> u64 {
 }
 
 fn designs_read(size: u16, n: u64) -> u64 {
-    let mut bytes = [0u8; 65535];
+    let mut bytes: [u8; 65535] = streams::zeros();
     put_design(size, &mut bytes);
     read_again(&bytes, size as usize, n)
 }
@@ -386,12 +394,12 @@ fn work(what: u64, n: u64) -> u64 {
     }
 }
 
-fn main() {
+fn main(rt: HostRuntime) -> io::Result<()> {
     let mut text = [0u8; 64];
-    let n = io::read_full(0, &mut text);
+    let n = streams::read_full(&mut rt.stdin(), &mut text)?;
     let line = &text[..n];
     let what = number_at(line, 0);
     let count = number_at(line, what.at);
-    io::print_decimal(1, work(what.value, count.value));
-    io::write_all(1, b"\n");
+    let sum = work(what.value, count.value);
+    println!(rt; "{sum}")
 }

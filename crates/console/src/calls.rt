@@ -50,7 +50,7 @@ fn fits(word: &[u8], kind: u8) -> bool {
 // Is the line this call, written as in the table?
 fn is(line: &[u8], call: &[u8]) -> bool {
     let kinds = words::word(call, 1);
-    if !check::same(words::word(line, 0), words::word(call, 0)) {
+    if !parts::same(words::word(line, 0), words::word(call, 0)) {
         return false;
     }
     if words::count(line) != kinds.len() + 1 {

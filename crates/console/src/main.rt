@@ -14,6 +14,8 @@ use console_run::Answered;
 use feeds::FeedRun;
 use run::Run;
 use small::Cabinet;
+use std::io;
+use std::io::{Read, Write};
 
 // What the console holds besides the bytes of the feed sheet: a record of each product, and how many bytes that sheet has.
 #[derive(Clone, Copy)]
@@ -214,23 +216,36 @@ fn at_first() -> Holding
 }
 
 // Answers lines to the end of the input.
-fn serve(input: &mut [u8], text: &mut [u8], sheet: &mut [u8]) {
+fn serve<R: Read, W: Write>(
+    reader: &mut R,
+    writer: &mut W,
+    input: &mut [u8],
+    text: &mut [u8],
+    sheet: &mut [u8],
+) -> io::Result<()> {
     let mut holding = at_first();
-    let mut lines = input::next_line(input, input::start());
+    let mut lines = input::next_line(reader, input, input::start())?;
     let mut turns = u64::MAX;
     while turns > 0 && !lines.done {
         let told = answer_held(input, lines, text, sheet, holding);
-        console_answers::send(text, told.end);
+        console_answers::send(writer, text, told.end)?;
         holding = told.holding;
-        lines = input::next_line(input, lines);
+        lines = input::next_line(reader, input, lines)?;
         turns -= 1;
     }
+    Ok(())
 }
 
 // The input holds the longest line and its line feed, the text the longest answer: 65,536 numbers of 10 digits.
-fn main() {
-    let mut input = [0u8; 262_145];
-    let mut text = [0u8; 800_000];
-    let mut sheet = [0u8; 65_536];
-    serve(&mut input, &mut text, &mut sheet);
+fn main(rt: HostRuntime) -> io::Result<()> {
+    let mut input: [u8; 262_145] = streams::zeros();
+    let mut text: [u8; 800_000] = streams::zeros();
+    let mut sheet: [u8; 65_536] = streams::zeros();
+    serve(
+        &mut rt.stdin(),
+        &mut rt.stdout(),
+        &mut input,
+        &mut text,
+        &mut sheet,
+    )
 }

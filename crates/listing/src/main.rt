@@ -5,6 +5,8 @@
 ghost use Rattle.std.specs.Prelude.{◌≡◌, ◌≤◌, length};
 ghost use Rattle.listing_text.specs.Listing.{listing_of, Whole};
 
+use std::io;
+
 // Fills the listing into a buffer that has room for every one, and answers its length.
 fn list_all(bytes: &[u8], out: &mut [u8]) -> usize
     requires { 350000 ≤ length out.old }
@@ -14,10 +16,10 @@ fn list_all(bytes: &[u8], out: &mut [u8]) -> usize
     listed.bytes
 }
 
-fn main() {
-    let mut input = [0u8; 65537];
-    let n = io::read_full(0, &mut input);
-    let mut out = [0u8; 350000];
+fn main(rt: HostRuntime) -> io::Result<()> {
+    let mut input: [u8; 65537] = streams::zeros();
+    let n = streams::read_full(&mut rt.stdin(), &mut input)?;
+    let mut out: [u8; 350000] = streams::zeros();
     let filled = list_all(&input[..n], &mut out);
-    io::write_all(1, &out[..filled]);
+    rt.write_all(&out[..filled])
 }

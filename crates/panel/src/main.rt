@@ -6,6 +6,8 @@ ghost use Rattle.std.specs.Prelude.{◌≡◌, ◌≤◌, length};
 ghost use Rattle.listing_text.specs.Listing.{Whole};
 ghost use Rattle.panel_text.specs.Panel.{panel_of};
 
+use std::io;
+
 // Fills the text into a buffer that has room for every one, and answers its length.
 fn print_all(design: &[u8], out: &mut [u8]) -> usize
     requires { 50000 ≤ length out.old }
@@ -15,10 +17,10 @@ fn print_all(design: &[u8], out: &mut [u8]) -> usize
     printed.bytes
 }
 
-fn main() {
-    let mut input = [0u8; 65537];
-    let n = io::read_full(0, &mut input);
-    let mut out = [0u8; 50000];
+fn main(rt: HostRuntime) -> io::Result<()> {
+    let mut input: [u8; 65537] = streams::zeros();
+    let n = streams::read_full(&mut rt.stdin(), &mut input)?;
+    let mut out: [u8; 50000] = streams::zeros();
     let filled = print_all(&input[..n], &mut out);
-    io::write_all(1, &out[..filled]);
+    rt.write_all(&out[..filled])
 }

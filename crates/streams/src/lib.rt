@@ -1,4 +1,4 @@
-// Reading into a lent buffer, from any reader. Nothing is allocated.
+// Reading into a lent buffer, from any reader, and buffers to lend. Nothing is allocated.
 #![tactic(auto)]
 
 ghost use Rattle.std.specs.Prelude.{◌≡◌, ◌+◌, ◌<◌, ◌≤◌, IfOk, length, take, drop};
@@ -33,4 +33,12 @@ pub fn read_full<R: Read>(reader: &mut R, buf: &mut [u8]) -> io::Result<usize>
         done += n;
     }
     Ok(done)
+}
+
+// So many zeros, to be lent as a buffer. A program with a long one asks for it here: of a literal that long a proof would work out
+// each byte.
+pub fn zeros<const N: usize>() -> [u8; N]
+    ensures { length result ≡ N }
+{
+    [0; N]
 }
