@@ -1,5 +1,5 @@
 -- The small facts of document 01, numbered as there. Definitions only. Assumes nothing.
-use Rattle.std.specs.Prelude.{◌≡◌, List, [], ◌∷◌, ◌++◌, map, ℕ, ◌+◌, ◌<◌}
+use Rattle.std.specs.Prelude.{◌≡◌, List, [], ◌∷◌, ◌++◌, map, ℕ, ◌<◌}
 use Rattle.network.specs.Widths.{depth_of}
 use Rattle.network.specs.Rows.{row_of, sheet_of}
 use Rattle.rest.specs.Share.{share}
