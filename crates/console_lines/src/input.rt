@@ -1,6 +1,6 @@
 // Lines from a reader, by way of a lent buffer. A line that fills the buffer has no end in it: it is too long, and its
 // bytes are dropped up to its end. The last line need not end in a line feed.
-ghost use Rattle.std.specs.Prelude.{length, IfOk};
+ghost use Rattle.std.specs.Prelude.{◌≡◌, IfOk, OnErr, length};
 ghost use Rattle.console_lines.specs.Bounds.{Held};
 
 use crate::parts;
@@ -85,7 +85,8 @@ fn with_room(mut lines: Lines, room: usize) -> Lines
 // Reads on, behind what is held.
 fn read_on<R: Read>(reader: &mut R, input: &mut [u8], mut lines: Lines) -> io::Result<Lines>
     requires { Held lines.from lines.end lines.to (length input.old) }
-    ensures { IfOk result (λ read. Held read.from read.end read.to (length input.new)) }
+    ensures held { IfOk result (λ read. Held read.from read.end read.to (length input.new)) }
+    ensures err { OnErr result (length input.new ≡ length input.old) }
 {
     let to = lines.to;
     let count = streams::read_behind(reader, input, to)?;
@@ -97,7 +98,8 @@ fn read_on<R: Read>(reader: &mut R, input: &mut [u8], mut lines: Lines) -> io::R
 // More of the line that is sought.
 fn more<R: Read>(reader: &mut R, input: &mut [u8], lines: Lines) -> io::Result<Lines>
     requires { Held lines.from lines.end lines.to (length input.old) }
-    ensures { IfOk result (λ read. Held read.from read.end read.to (length input.new)) }
+    ensures held { IfOk result (λ read. Held read.from read.end read.to (length input.new)) }
+    ensures err { OnErr result (length input.new ≡ length input.old) }
 {
     let moved = to_front(input, lines);
     let roomy = with_room(moved, input.len());
@@ -140,10 +142,11 @@ fn last(mut lines: Lines, room: usize) -> Lines
 }
 
 // The next line. A proved loop has to end, and nothing says that the input does: so its turns count down, from a number that
-// no input uses up.
+// no input uses up. An error is the reader's own: the bytes of the buffer are not told then.
 pub fn next_line<R: Read>(reader: &mut R, input: &mut [u8], before: Lines) -> io::Result<Lines>
     requires { Held before.from before.end before.to (length input.old) }
-    ensures { IfOk result (λ next. Held next.from next.end next.to (length input.new)) }
+    ensures held { IfOk result (λ next. Held next.from next.end next.to (length input.new)) }
+    ensures err { OnErr result (length input.new ≡ length input.old) }
 {
     let mut lines = behind(before, input.len());
     let mut turns = u64::MAX;

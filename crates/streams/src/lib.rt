@@ -1,28 +1,32 @@
 // Reading into a lent buffer, from any reader, and buffers to lend. Nothing is allocated.
 #![tactic(auto)]
 
-ghost use Rattle.std.specs.Prelude.{◌≡◌, ◌+◌, ◌<◌, ◌≤◌, IfOk, length, take, drop};
-ghost use Rattle.std.specs.Io.KnownBytes.{Consumes, IsAtEnd};
+ghost use Rattle.std.specs.Prelude.{◌≡◌, ◌+◌, ◌<◌, ◌≤◌, IfOk, OnErr, length, take, drop};
+ghost use Rattle.std.specs.Io.KnownBytes.{Consumes, IsAtEnd, Keeps};
 
 use std::io;
 use std::io::Read;
 
-// One read, into the buffer from a place on. Answers how many bytes it gave: none where the input has ended or no room is left.
+// One read, into the buffer from a place on. Answers how many bytes it gave: none where the input has ended or no room is left. An
+// error is the reader's own, and nothing is read then.
 pub fn read_behind<R: Read>(reader: &mut R, buf: &mut [u8], at: usize) -> io::Result<usize>
     requires { at ≤ length buf.old }
     ensures front { take at buf.new ≡ take at buf.old }
     ensures fits { IfOk result (λ n. at + n ≤ length buf.new) }
     ensures bytes { IfOk result (λ n. Consumes (R.remaining reader.old) (R.remaining reader.new) (take n (drop at buf.new))) }
     ensures end { IfOk result (λ n. n ≡ 0 → at < length buf.new → IsAtEnd (R.remaining reader.new)) }
+    ensures err { OnErr result (Keeps (R.remaining reader.old) (R.remaining reader.new)) }
 {
     reader.read(&mut buf[at..])
 }
 
-// Reads until the buffer is full or the input ends. Answers how many bytes it put at the buffer's front.
+// Reads until the buffer is full or the input ends. Answers how many bytes it put at the buffer's front. An error is the reader's own;
+// what was read before it stands in the buffer, and how much that is is not told.
 pub fn read_full<R: Read>(reader: &mut R, buf: &mut [u8]) -> io::Result<usize>
     ensures within { IfOk result (λ n. n ≤ length buf.new) }
     ensures bytes { IfOk result (λ n. Consumes (R.remaining reader.old) (R.remaining reader.new) (take n buf.new)) }
     ensures all { IfOk result (λ n. n < length buf.new → IsAtEnd (R.remaining reader.new)) }
+    ensures err { OnErr result (length buf.new ≡ length buf.old) }
 {
     let mut done = 0;
     while done < buf.len() {

@@ -73,7 +73,7 @@ fn put_turns(out: &mut [u8], at: usize, bytes: &[u8]) -> usize
     let mut run = opened.run;
     let mut next = at;
     let mut from = 0;
-    while from < bytes.len() {
+    'turns: while from < bytes.len() {
         let read = records::read_in_schedule(&bytes[from..]);
         let Read::Got(item, len) = read else {
             return next;

@@ -11,17 +11,17 @@ use Rattle.trace_text.proofs.Lines.{begins, ends_unread, ends_whole, Spot, Gives
 use Rattle.trace_text.proofs.put_turns.Goals.{Joined-item, in-Open, in-Enter, in-Turn, in-Close, in_default-item}
 use Rattle.trace_text.proofs.put_turns.Goals as goal
 
-pub loop-from-init : goal.loop-from-init
+pub turns-init : goal.turns-init
 unfolding at_start open_of open_no width_ok first_of
-loop-from-init c = begins _ _ _ _ (rw c.open-opened.ensures)
+turns-init c = begins _ _ _ _ (rw c.open-opened.ensures)
 
 pub shape_of-out-in_default : goal.shape_of-out-in_default
-shape_of-out-in_default c = c.loop-from.invariant.leads.same
+shape_of-out-in_default c = c.turns.invariant.leads.same
 
 pub returns-in_default : goal.returns-in_default
 returns-in_default c =
-    ends_unread c.loop-from.invariant
-    (c.read_in_schedule-read.ensures ∙ record_part _ _ c.loop-from-test.true) c.in_default.is
+    ends_unread c.turns.invariant
+    (c.read_in_schedule-read.ensures ∙ record_part _ _ c.turns-test.true) c.in_default.is
 
 abbrev spot : Joined-item → Spot
 spot c =
@@ -35,8 +35,8 @@ spot c =
       out = _;
       item = _;
       len = _;
-      going = c.loop-from.invariant;
-      read = sym (c.read_in_schedule-read.ensures ∙ record_part _ _ c.loop-from-test.true) ∙ c.in-Got.is;
+      going = c.turns.invariant;
+      read = sym (c.read_in_schedule-read.ensures ∙ record_part _ _ c.turns-test.true) ∙ c.in-Got.is;
     }
 
 gives : (c : Joined-item) → Gives (spot c) c.match-item.run c.match-item.next c.match-item.out
@@ -53,14 +53,14 @@ gives c =
 pub overflow_add-from : goal.overflow_add-from
 overflow_add-from c = omega (arith, (inside (spot c)).within)
 
-pub loop-from-smaller : goal.loop-from-smaller
-loop-from-smaller c = omega (arith, (inside (spot c)).within, (inside (spot c)).onward)
+pub turns-smaller : goal.turns-smaller
+turns-smaller c = omega (arith, (inside (spot c)).within, (inside (spot c)).onward)
 
-pub loop-from-preserved : goal.loop-from-preserved
-loop-from-preserved c = goes_on (spot c) (gives c)
+pub turns-preserved : goal.turns-preserved
+turns-preserved c = goes_on (spot c) (gives c)
 
 pub shape_of-out : goal.shape_of-out
-shape_of-out c = c.loop-from.invariant.leads.same
+shape_of-out c = c.turns.invariant.leads.same
 
 pub returns : goal.returns
-returns c = ends_whole c.loop-from.invariant c.loop-from-test.false
+returns c = ends_whole c.turns.invariant c.turns-test.false

@@ -5,8 +5,8 @@ use lib.ListN.{length}
 use Rattle.trace_text.proofs.Lines.{Going}
 use Rattle.trace_text.proofs.put_turns.Given as goal
 
-abbrev pub invariant-loop-from : goal.invariant-loop-from
-invariant-loop-from l = Going l.bytes l.at l.initial.out l.run l.next l.from l.out
+abbrev pub invariant-turns : goal.invariant-turns
+invariant-turns l = Going l.bytes l.at l.initial.out l.run l.next l.from l.out
 
-abbrev pub decreases-loop-from : goal.decreases-loop-from
-decreases-loop-from l = length l.bytes - l.from
+abbrev pub decreases-turns : goal.decreases-turns
+decreases-turns l = length l.bytes - l.from
