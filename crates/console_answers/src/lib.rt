@@ -51,8 +51,8 @@ pub fn put_numbers(out: &mut [u8], refusal: u8, values: &[usize], numbers: &[u32
     text::put_byte(out, end, b'\n')
 }
 
-// Sends the line that ends there. No answer is longer than the text that the console lends. An error is the writer's own: a part of the
-// line may be written then.
+// Sends the line that ends there. No answer is longer than the text that the console lends. An error is an I/O error of `write_all`: a
+// part of the line may be written then.
 pub fn send<W: Write>(writer: &mut W, text: &[u8], end: usize) -> io::Result<()>
     ensures sent { end ≤ length text.now → OnOk result (Appends (W.contents writer.old) (W.contents writer.new) (take end text.now)) }
     ensures kept { length text.now < end → IsOk result × Keeps (W.contents writer.old) (W.contents writer.new) }
