@@ -1,7 +1,7 @@
 // What the console answers: a line, put into the front of a lent text, and sent. A put answers where the line ends.
 #![tactic(auto)]
 
-ghost use Rattle.std.specs.Prelude.{◌<◌, ◌≤◌, IsOk, OnOk, length, take};
+ghost use Rattle.std.specs.Prelude.{ℕ, ◌<◌, ◌≤◌, IsOk, OnOk, OnErr, length, take};
 ghost use Rattle.std.specs.Io.KnownBytes.{Appends, Keeps};
 ghost use Rattle.text.specs.Text.{Puts};
 ghost use Rattle.console_answers.specs.Answers.{refusal_line, head_of, values_line, bytes_line, numbers_line};
@@ -51,14 +51,15 @@ pub fn put_numbers(out: &mut [u8], refusal: u8, values: &[usize], numbers: &[u32
     text::put_byte(out, end, b'\n')
 }
 
-// Sends the line that ends there. No answer is longer than the text that the console lends. An error is an I/O error of `write_all`: a
-// part of the line may be written then.
+// Sends the line that ends there. No answer is longer than the text that the console lends. An error is the writer's own, or that
+// it takes no more, and what stands before some place of the line was sent then.
 pub fn send<W: Write>(writer: &mut W, text: &[u8], end: usize) -> io::Result<()>
     ensures sent { end ≤ length text.now → OnOk result (Appends (W.contents writer.old) (W.contents writer.new) (take end text.now)) }
     ensures kept { length text.now < end → IsOk result × Keeps (W.contents writer.old) (W.contents writer.new) }
+    ensures err { OnErr result ((n : ℕ) × (n ≤ end) × Appends (W.contents writer.old) (W.contents writer.new) (take n (take end text.now))) }
 {
     if end <= text.len() {
-        writer.write_all(&text[0..end])?;
+        streams::write_whole(writer, &text[0..end])?;
     }
     Ok(())
 }

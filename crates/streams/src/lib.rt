@@ -1,11 +1,11 @@
-// Reading into a lent buffer, from any reader, and buffers to lend. Nothing is allocated.
+// Reading into a lent buffer, from any reader, writing one to any writer, and buffers to lend. Nothing is allocated.
 #![tactic(auto)]
 
-ghost use Rattle.std.specs.Prelude.{◌≡◌, ◌+◌, ◌<◌, ◌≤◌, IfOk, OnErr, length, take, drop};
-ghost use Rattle.std.specs.Io.KnownBytes.{Consumes, IsAtEnd, Keeps};
+ghost use Rattle.std.specs.Prelude.{◌≡◌, ℕ, ◌+◌, ◌<◌, ◌≤◌, IfOk, OnOk, OnErr, length, take, drop};
+ghost use Rattle.std.specs.Io.KnownBytes.{Appends, Consumes, IsAtEnd, Keeps};
 
 use std::io;
-use std::io::Read;
+use std::io::{ErrorKind, Read, Write};
 
 // One read, into the buffer from a place on. Answers how many bytes it gave: none where the input has ended or no room is left. An
 // error is the reader's own, and nothing is read then.
@@ -20,13 +20,13 @@ pub fn read_behind<R: Read>(reader: &mut R, buf: &mut [u8], at: usize) -> io::Re
     reader.read(&mut buf[at..])
 }
 
-// Reads until the buffer is full or the input ends. Answers how many bytes it put at the buffer's front. An error is the reader's own;
-// what was read before it stands in the buffer, and how much that is is not told.
+// Reads until the buffer is full or the input ends. Answers how many bytes it put at the buffer's front. An error is the reader's own,
+// and what was read before it stands at the front.
 pub fn read_full<R: Read>(reader: &mut R, buf: &mut [u8]) -> io::Result<usize>
     ensures within { IfOk result (λ n. n ≤ length buf.new) }
     ensures bytes { IfOk result (λ n. Consumes (R.remaining reader.old) (R.remaining reader.new) (take n buf.new)) }
     ensures all { IfOk result (λ n. n < length buf.new → IsAtEnd (R.remaining reader.new)) }
-    ensures err { OnErr result (length buf.new ≡ length buf.old) }
+    ensures err { OnErr result ((n : ℕ) × (n ≤ length buf.new) × Consumes (R.remaining reader.old) (R.remaining reader.new) (take n buf.new)) }
 {
     let mut done = 0;
     while done < buf.len() {
@@ -37,6 +37,22 @@ pub fn read_full<R: Read>(reader: &mut R, buf: &mut [u8]) -> io::Result<usize>
         done += n;
     }
     Ok(done)
+}
+
+// Writes bytes whole. An error is the writer's own, or that it takes no more, and what stands before some place was written then.
+pub fn write_whole<W: Write>(writer: &mut W, bytes: &[u8]) -> io::Result<()>
+    ensures ok { OnOk result (Appends (W.contents writer.old) (W.contents writer.new) bytes.now) }
+    ensures err { OnErr result ((n : ℕ) × (n ≤ length bytes.now) × Appends (W.contents writer.old) (W.contents writer.new) (take n bytes.now)) }
+{
+    let mut done = 0;
+    while done < bytes.len() {
+        let taken = writer.write(&bytes[done..])?;
+        if taken == 0 {
+            return Err(io::Error::from(ErrorKind::WriteZero));
+        }
+        done += taken;
+    }
+    Ok(())
 }
 
 // So many zeros, to be lent as a buffer. A program with a long one asks for it here: of a literal that long a proof would work out
