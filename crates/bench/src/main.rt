@@ -6,7 +6,7 @@
 // does the same in plain C.
 #![tactic(auto)]
 
-ghost use Rattle.std.specs.Prelude.{◌≡◌, ◌≤◌, length};
+ghost use Rattle.std.specs.Prelude.{◌≡◌, ◌≤◌, EachIndex, slice_index, length};
 
 use moves::Turn;
 use outcome::Outcome;
@@ -110,7 +110,8 @@ fn lopsided() -> Run {
 
 // So many zeros; see `streams::zeros`.
 fn zeros<const N: usize>() -> [u32; N]
-    ensures { length result ≡ N }
+    ensures long { length result ≡ N }
+    ensures zero { EachIndex result (λ i. slice_index result i ≡ 0) }
 {
     [0; N]
 }

@@ -106,6 +106,23 @@ module _ (left : ℕ) (s : List ℕ) (i : ℕ) where
         long = body_long left false (rest s i) h z k e;
       }
 
+  -- what the reader of a member's kind handed on: a series' or a beside's of its inner bytes, or a leaf's
+  pub data Handed (kind size at row col : ℕ) (g g' : List ℕ) (r : Judged) : Type 0 where
+    of_series : kind ≡ 16
+        → ReadInto (joined_at series at (members_in (record_at (left - 1) false) (length (body_in (rest s i) size)) (at + 4) (body_in (rest s i) size))) row col g g' r
+        → Handed kind size at row col g g' r
+    of_beside : kind ≡ 17
+        → ReadInto (joined_at beside at (members_in (record_at (left - 1) false) (length (body_in (rest s i) size)) (at + 4) (body_in (rest s i) size))) row col g g' r
+        → Handed kind size at row col g g' r
+    of_leaf : (kind ≡ 16 → ⊥) → (kind ≡ 17 → ⊥) → ReadInto (leaf_of at kind (body_in (rest s i) size)) row col g g' r → Handed kind size at row col g g' r
+
+  -- so the member is read
+  pub member_read : {number : ℕ} → number ≡ head_no left false (rest s i) → number ≡ 0 → {kind size : ℕ} → kind ≡ kind_in (rest s i) → size ≡ length_in (rest s i)
+      → {at row col : ℕ} {g g' : List ℕ} {r : Judged} → Handed kind size at row col g g' r → ReadInto (record_at left false at (drop i s)) row col g g' r
+  member_read h z k e {at} (of_series is o) = rest_read at (by_series left false (rest s i) h z k e at is o)
+  member_read h z k e {at} (of_beside is o) = rest_read at (by_beside left false (rest s i) h z k e at is o)
+  member_read h z k e {at} (of_leaf a b o) = rest_read at (by_leaf left false (rest s i) h z k e at a b o)
+
 -- ---- the outermost record
 module _ (s : List ℕ) where
   pub outer_read : {row col : ℕ} {g g' : List ℕ} {r : Judged} → ReadInto (record_at 8 true 0 s) row col g g' r → ReadInto (design_of s) row col g g' r

@@ -1,7 +1,7 @@
 // Reading into a lent buffer, from any reader, writing one to any writer, and buffers to lend. Nothing is allocated.
 #![tactic(auto)]
 
-ghost use Rattle.std.specs.Prelude.{◌≡◌, ℕ, ◌+◌, ◌<◌, ◌≤◌, IfOk, OnOk, OnErr, length, take, drop};
+ghost use Rattle.std.specs.Prelude.{◌≡◌, ℕ, ◌+◌, ◌<◌, ◌≤◌, IfOk, OnOk, OnErr, EachIndex, slice_index, length, take, drop};
 ghost use Rattle.std.specs.Io.KnownBytes.{Appends, Consumes, IsAtEnd, Keeps};
 
 use std::io;
@@ -58,7 +58,8 @@ pub fn write_whole<W: Write>(writer: &mut W, bytes: &[u8]) -> io::Result<()>
 // So many zeros, to be lent as a buffer. A program with a long one asks for it here: of a literal that long a proof would work out
 // each byte.
 pub fn zeros<const N: usize>() -> [u8; N]
-    ensures { length result ≡ N }
+    ensures long { length result ≡ N }
+    ensures zero { EachIndex result (λ i. slice_index result i ≡ 0) }
 {
     [0; N]
 }

@@ -1,10 +1,9 @@
 -- `gaps::write_missing` meets its contract. The invariant: the missing numbers passed are written, and counted. The measure is
 -- the numbers left. Assumes nothing.
 use mathlib.Core.Path.{◌≡◌}
-use Prim.Native.Nat.{◌<◌, ◌%◌}
+use Prim.Native.Nat.{◌%◌}
 use native.Mathlib.Nat.{mod-lt}
 use native.Mathlib.Omega.{arith}
-use lib.ListN.{length}
 use Rattle.gaps.proofs.Counts.{walked_none, walked_room, walked_missing, walked_dealt}
 use Rattle.gaps.proofs.write_missing.Goals as goal
 use Rattle.gaps.proofs.write_missing.Goals.{then-counts-exit, else-counts-exit}
@@ -22,13 +21,13 @@ pub overflow_cast-counts : goal.overflow_cast-counts
 overflow_cast-counts c = omega (arith, c.requires.0.small (c.loop-v.v % c.args.w))
 
 pub offset_bounds-out-at : goal.offset_bounds-out-at
-offset_bounds-out-at c = omega (arith, (let h : c.loop-v.at < length c.loop-v.out = walked_room c.requires.2 c.loop-v.invariant c.loop-v-test.true c.if-counts-exit.true in h))
+offset_bounds-out-at c = omega (arith, walked_room c.requires.2 c.loop-v.invariant c.loop-v-test.true c.if-counts-exit.true)
 
 pub bounds-out-at : goal.bounds-out-at
-bounds-out-at c = omega (arith, (let h : c.loop-v.at < length c.loop-v.out = walked_room c.requires.2 c.loop-v.invariant c.loop-v-test.true c.if-counts-exit.true in h))
+bounds-out-at c = omega (arith, walked_room c.requires.2 c.loop-v.invariant c.loop-v-test.true c.if-counts-exit.true)
 
 pub overflow_add-at : goal.overflow_add-at
-overflow_add-at c = omega (arith, (let h : c.loop-v.at < length c.loop-v.out = walked_room c.requires.2 c.loop-v.invariant c.loop-v-test.true c.if-counts-exit.true in h))
+overflow_add-at c = omega (arith, walked_room c.requires.2 c.loop-v.invariant c.loop-v-test.true c.if-counts-exit.true)
 
 pub loop-v-preserved : goal.loop-v-preserved
 loop-v-preserved c =

@@ -12,7 +12,7 @@ use Rattle.designs.specs.Designs.{record_at}
 use Rattle.leaves.specs.Told.{ReadInto}
 use Rattle.leaves.proofs.Filling.{kept_then}
 use Rattle.panels.proofs.Going.{begin, ended, stopped_at, turned_beside, turned_series, told_refused, small}
-use Rattle.panels.proofs.Turns.{whole, by_series, by_beside, by_leaf, leaf_long, read_same, rest_refused, rest_read, rest_whole, rest_size, inner}
+use Rattle.panels.proofs.Turns.{whole, of_series, of_beside, of_leaf, member_read, leaf_long, read_same, rest_refused, rest_whole, rest_size, inner}
 use Rattle.panels.proofs.+beside_reader_series_reader.Goals.{beside_reader-in-16, beside_reader-in-17, beside_reader-in_default, series_reader-in-16, series_reader-in-17, series_reader-in_default}
 use Rattle.panels.proofs.+beside_reader_series_reader.Goals as goal
 
@@ -51,22 +51,22 @@ beside_reader-leaf-got-requires t c =
 pub beside_reader-returns-in_default-got : goal.beside_reader-returns-in_default-got
 beside_reader-returns-in_default-got t c =
     let got : ReadInto (record_at c.args.left false (c.args.at + 4 + c.loop-i.i) (drop c.loop-i.i c.args.bytes.now)) c.args.row (c.args.col + c.loop-i.sum.size.width) c.loop-i.grid c.match-kind.grid c.match-kind.got =
-    rest_read c.args.left c.args.bytes.now c.loop-i.i _
+    member_read c.args.left c.args.bytes.now c.loop-i.i c.head_refusal-number.ensures c.if-number-ne0.false c.field_of_two-kind.ensures c.field_of_two-size.ensures
     (elim c.match-kind.branch [
-      | beside_reader-in-16 w ↦ by_series c.args.left false _ c.head_refusal-number.ensures c.if-number-ne0.false c.field_of_two-kind.ensures c.field_of_two-size.ensures _ w.in-16.is (read_same w.grid-is w.got-is w.series_reader-got.ensures)
-      | beside_reader-in-17 w ↦ by_beside c.args.left false _ c.head_refusal-number.ensures c.if-number-ne0.false c.field_of_two-kind.ensures c.field_of_two-size.ensures _ w.in-17.is (read_same w.grid-is w.got-is w.beside_reader-got.ensures)
-      | beside_reader-in_default w ↦ by_leaf c.args.left false _ c.head_refusal-number.ensures c.if-number-ne0.false c.field_of_two-kind.ensures c.field_of_two-size.ensures _ (search rules) (search rules) (read_same w.grid-is w.got-is w.leaf-got.ensures)
+      | beside_reader-in-16 w ↦ of_series w.in-16.is (read_same w.grid-is w.got-is w.series_reader-got.ensures)
+      | beside_reader-in-17 w ↦ of_beside w.in-17.is (read_same w.grid-is w.got-is w.beside_reader-got.ensures)
+      | beside_reader-in_default w ↦ of_leaf (search rules) (search rules) (read_same w.grid-is w.got-is w.leaf-got.ensures)
     ]) in
     stopped_at c.loop-i.invariant c.loop-i-test.true (told_refused _ c.in_default-got.field-0 (sym c.in_default-got.is ∙ got.answer)) (kept_then c.loop-i.invariant.kept got.kept (omega arith) (omega arith)) c.in_default-got.is
 
 pub beside_reader-side_by_side-sum-requires : goal.beside_reader-side_by_side-sum-requires
 beside_reader-side_by_side-sum-requires t c =
     let got : ReadInto (record_at c.args.left false (c.args.at + 4 + c.loop-i.i) (drop c.loop-i.i c.args.bytes.now)) c.args.row (c.args.col + c.loop-i.sum.size.width) c.loop-i.grid c.match-kind.grid c.match-kind.got =
-    rest_read c.args.left c.args.bytes.now c.loop-i.i _
+    member_read c.args.left c.args.bytes.now c.loop-i.i c.head_refusal-number.ensures c.if-number-ne0.false c.field_of_two-kind.ensures c.field_of_two-size.ensures
     (elim c.match-kind.branch [
-      | beside_reader-in-16 w ↦ by_series c.args.left false _ c.head_refusal-number.ensures c.if-number-ne0.false c.field_of_two-kind.ensures c.field_of_two-size.ensures _ w.in-16.is (read_same w.grid-is w.got-is w.series_reader-got.ensures)
-      | beside_reader-in-17 w ↦ by_beside c.args.left false _ c.head_refusal-number.ensures c.if-number-ne0.false c.field_of_two-kind.ensures c.field_of_two-size.ensures _ w.in-17.is (read_same w.grid-is w.got-is w.beside_reader-got.ensures)
-      | beside_reader-in_default w ↦ by_leaf c.args.left false _ c.head_refusal-number.ensures c.if-number-ne0.false c.field_of_two-kind.ensures c.field_of_two-size.ensures _ (search rules) (search rules) (read_same w.grid-is w.got-is w.leaf-got.ensures)
+      | beside_reader-in-16 w ↦ of_series w.in-16.is (read_same w.grid-is w.got-is w.series_reader-got.ensures)
+      | beside_reader-in-17 w ↦ of_beside w.in-17.is (read_same w.grid-is w.got-is w.beside_reader-got.ensures)
+      | beside_reader-in_default w ↦ of_leaf (search rules) (search rules) (read_same w.grid-is w.got-is w.leaf-got.ensures)
     ]) in
     let s = small c.args.left c.args.bytes.now c.loop-i.i (c.args.at + 4 + c.loop-i.i) c.in-Made.p (sym c.in-Made.is ∙ got.answer) in
     (omega (arith, c.loop-i.invariant.wide), omega (arith, s.wide))
@@ -82,11 +82,11 @@ beside_reader-loop-i-smaller t c =
 pub beside_reader-loop-i-preserved : goal.beside_reader-loop-i-preserved
 beside_reader-loop-i-preserved t c =
     let got : ReadInto (record_at c.args.left false (c.args.at + 4 + c.loop-i.i) (drop c.loop-i.i c.args.bytes.now)) c.args.row (c.args.col + c.loop-i.sum.size.width) c.loop-i.grid c.match-kind.grid c.match-kind.got =
-    rest_read c.args.left c.args.bytes.now c.loop-i.i _
+    member_read c.args.left c.args.bytes.now c.loop-i.i c.head_refusal-number.ensures c.if-number-ne0.false c.field_of_two-kind.ensures c.field_of_two-size.ensures
     (elim c.match-kind.branch [
-      | beside_reader-in-16 w ↦ by_series c.args.left false _ c.head_refusal-number.ensures c.if-number-ne0.false c.field_of_two-kind.ensures c.field_of_two-size.ensures _ w.in-16.is (read_same w.grid-is w.got-is w.series_reader-got.ensures)
-      | beside_reader-in-17 w ↦ by_beside c.args.left false _ c.head_refusal-number.ensures c.if-number-ne0.false c.field_of_two-kind.ensures c.field_of_two-size.ensures _ w.in-17.is (read_same w.grid-is w.got-is w.beside_reader-got.ensures)
-      | beside_reader-in_default w ↦ by_leaf c.args.left false _ c.head_refusal-number.ensures c.if-number-ne0.false c.field_of_two-kind.ensures c.field_of_two-size.ensures _ (search rules) (search rules) (read_same w.grid-is w.got-is w.leaf-got.ensures)
+      | beside_reader-in-16 w ↦ of_series w.in-16.is (read_same w.grid-is w.got-is w.series_reader-got.ensures)
+      | beside_reader-in-17 w ↦ of_beside w.in-17.is (read_same w.grid-is w.got-is w.beside_reader-got.ensures)
+      | beside_reader-in_default w ↦ of_leaf (search rules) (search rules) (read_same w.grid-is w.got-is w.leaf-got.ensures)
     ]) in
     turned_beside c.loop-i.invariant c.loop-i-test.true (read_same refl (sym c.in-Made.is) got) (rest_whole c.args.left c.args.bytes.now c.loop-i.i (whole c.args.left false _ c.head_refusal-number.ensures c.if-number-ne0.false)) (rest_size c.args.left c.args.bytes.now c.loop-i.i c.field_of_two-size.ensures) c.side_by_side-sum.ensures
 
@@ -128,33 +128,33 @@ series_reader-leaf-got-requires t c =
 pub series_reader-returns-in_default-got : goal.series_reader-returns-in_default-got
 series_reader-returns-in_default-got t c =
     let got : ReadInto (record_at c.args.left false (c.args.at + 4 + c.loop-i.i) (drop c.loop-i.i c.args.bytes.now)) (c.args.row + c.loop-i.sum.size.depth) c.args.col c.loop-i.grid c.match-kind.grid c.match-kind.got =
-    rest_read c.args.left c.args.bytes.now c.loop-i.i _
+    member_read c.args.left c.args.bytes.now c.loop-i.i c.head_refusal-number.ensures c.if-number-ne0.false c.field_of_two-kind.ensures c.field_of_two-size.ensures
     (elim c.match-kind.branch [
-      | series_reader-in-16 w ↦ by_series c.args.left false _ c.head_refusal-number.ensures c.if-number-ne0.false c.field_of_two-kind.ensures c.field_of_two-size.ensures _ w.in-16.is (read_same w.grid-is w.got-is w.series_reader-got.ensures)
-      | series_reader-in-17 w ↦ by_beside c.args.left false _ c.head_refusal-number.ensures c.if-number-ne0.false c.field_of_two-kind.ensures c.field_of_two-size.ensures _ w.in-17.is (read_same w.grid-is w.got-is w.beside_reader-got.ensures)
-      | series_reader-in_default w ↦ by_leaf c.args.left false _ c.head_refusal-number.ensures c.if-number-ne0.false c.field_of_two-kind.ensures c.field_of_two-size.ensures _ (search rules) (search rules) (read_same w.grid-is w.got-is w.leaf-got.ensures)
+      | series_reader-in-16 w ↦ of_series w.in-16.is (read_same w.grid-is w.got-is w.series_reader-got.ensures)
+      | series_reader-in-17 w ↦ of_beside w.in-17.is (read_same w.grid-is w.got-is w.beside_reader-got.ensures)
+      | series_reader-in_default w ↦ of_leaf (search rules) (search rules) (read_same w.grid-is w.got-is w.leaf-got.ensures)
     ]) in
     stopped_at c.loop-i.invariant c.loop-i-test.true (told_refused _ c.in_default-got.field-0 (sym c.in_default-got.is ∙ got.answer)) (kept_then c.loop-i.invariant.kept got.kept (omega arith) (omega arith)) c.in_default-got.is
 
 pub series_reader-link-requires : goal.series_reader-link-requires
 series_reader-link-requires t c =
     let got : ReadInto (record_at c.args.left false (c.args.at + 4 + c.loop-i.i) (drop c.loop-i.i c.args.bytes.now)) (c.args.row + c.loop-i.sum.size.depth) c.args.col c.loop-i.grid c.match-kind.grid c.match-kind.got =
-    rest_read c.args.left c.args.bytes.now c.loop-i.i _
+    member_read c.args.left c.args.bytes.now c.loop-i.i c.head_refusal-number.ensures c.if-number-ne0.false c.field_of_two-kind.ensures c.field_of_two-size.ensures
     (elim c.match-kind.branch [
-      | series_reader-in-16 w ↦ by_series c.args.left false _ c.head_refusal-number.ensures c.if-number-ne0.false c.field_of_two-kind.ensures c.field_of_two-size.ensures _ w.in-16.is (read_same w.grid-is w.got-is w.series_reader-got.ensures)
-      | series_reader-in-17 w ↦ by_beside c.args.left false _ c.head_refusal-number.ensures c.if-number-ne0.false c.field_of_two-kind.ensures c.field_of_two-size.ensures _ w.in-17.is (read_same w.grid-is w.got-is w.beside_reader-got.ensures)
-      | series_reader-in_default w ↦ by_leaf c.args.left false _ c.head_refusal-number.ensures c.if-number-ne0.false c.field_of_two-kind.ensures c.field_of_two-size.ensures _ (search rules) (search rules) (read_same w.grid-is w.got-is w.leaf-got.ensures)
+      | series_reader-in-16 w ↦ of_series w.in-16.is (read_same w.grid-is w.got-is w.series_reader-got.ensures)
+      | series_reader-in-17 w ↦ of_beside w.in-17.is (read_same w.grid-is w.got-is w.beside_reader-got.ensures)
+      | series_reader-in_default w ↦ of_leaf (search rules) (search rules) (read_same w.grid-is w.got-is w.leaf-got.ensures)
     ]) in
     got.kept.long ∙ c.loop-i.invariant.kept.long ∙ c.requires.0
 
 pub series_reader-in_series-sum-requires : goal.series_reader-in_series-sum-requires
 series_reader-in_series-sum-requires t c =
     let got : ReadInto (record_at c.args.left false (c.args.at + 4 + c.loop-i.i) (drop c.loop-i.i c.args.bytes.now)) (c.args.row + c.loop-i.sum.size.depth) c.args.col c.loop-i.grid c.match-kind.grid c.match-kind.got =
-    rest_read c.args.left c.args.bytes.now c.loop-i.i _
+    member_read c.args.left c.args.bytes.now c.loop-i.i c.head_refusal-number.ensures c.if-number-ne0.false c.field_of_two-kind.ensures c.field_of_two-size.ensures
     (elim c.match-kind.branch [
-      | series_reader-in-16 w ↦ by_series c.args.left false _ c.head_refusal-number.ensures c.if-number-ne0.false c.field_of_two-kind.ensures c.field_of_two-size.ensures _ w.in-16.is (read_same w.grid-is w.got-is w.series_reader-got.ensures)
-      | series_reader-in-17 w ↦ by_beside c.args.left false _ c.head_refusal-number.ensures c.if-number-ne0.false c.field_of_two-kind.ensures c.field_of_two-size.ensures _ w.in-17.is (read_same w.grid-is w.got-is w.beside_reader-got.ensures)
-      | series_reader-in_default w ↦ by_leaf c.args.left false _ c.head_refusal-number.ensures c.if-number-ne0.false c.field_of_two-kind.ensures c.field_of_two-size.ensures _ (search rules) (search rules) (read_same w.grid-is w.got-is w.leaf-got.ensures)
+      | series_reader-in-16 w ↦ of_series w.in-16.is (read_same w.grid-is w.got-is w.series_reader-got.ensures)
+      | series_reader-in-17 w ↦ of_beside w.in-17.is (read_same w.grid-is w.got-is w.beside_reader-got.ensures)
+      | series_reader-in_default w ↦ of_leaf (search rules) (search rules) (read_same w.grid-is w.got-is w.leaf-got.ensures)
     ]) in
     let s = small c.args.left c.args.bytes.now c.loop-i.i (c.args.at + 4 + c.loop-i.i) c.in-Made.p (sym c.in-Made.is ∙ got.answer) in
     (omega (arith, c.loop-i.invariant.deep), omega (arith, s.deep))
@@ -170,11 +170,11 @@ series_reader-loop-i-smaller t c =
 pub series_reader-loop-i-preserved : goal.series_reader-loop-i-preserved
 series_reader-loop-i-preserved t c =
     let got : ReadInto (record_at c.args.left false (c.args.at + 4 + c.loop-i.i) (drop c.loop-i.i c.args.bytes.now)) (c.args.row + c.loop-i.sum.size.depth) c.args.col c.loop-i.grid c.match-kind.grid c.match-kind.got =
-    rest_read c.args.left c.args.bytes.now c.loop-i.i _
+    member_read c.args.left c.args.bytes.now c.loop-i.i c.head_refusal-number.ensures c.if-number-ne0.false c.field_of_two-kind.ensures c.field_of_two-size.ensures
     (elim c.match-kind.branch [
-      | series_reader-in-16 w ↦ by_series c.args.left false _ c.head_refusal-number.ensures c.if-number-ne0.false c.field_of_two-kind.ensures c.field_of_two-size.ensures _ w.in-16.is (read_same w.grid-is w.got-is w.series_reader-got.ensures)
-      | series_reader-in-17 w ↦ by_beside c.args.left false _ c.head_refusal-number.ensures c.if-number-ne0.false c.field_of_two-kind.ensures c.field_of_two-size.ensures _ w.in-17.is (read_same w.grid-is w.got-is w.beside_reader-got.ensures)
-      | series_reader-in_default w ↦ by_leaf c.args.left false _ c.head_refusal-number.ensures c.if-number-ne0.false c.field_of_two-kind.ensures c.field_of_two-size.ensures _ (search rules) (search rules) (read_same w.grid-is w.got-is w.leaf-got.ensures)
+      | series_reader-in-16 w ↦ of_series w.in-16.is (read_same w.grid-is w.got-is w.series_reader-got.ensures)
+      | series_reader-in-17 w ↦ of_beside w.in-17.is (read_same w.grid-is w.got-is w.beside_reader-got.ensures)
+      | series_reader-in_default w ↦ of_leaf (search rules) (search rules) (read_same w.grid-is w.got-is w.leaf-got.ensures)
     ]) in
     turned_series c.loop-i.invariant c.loop-i-test.true (read_same refl (sym c.in-Made.is) got) c.row_at-exits.ensures c.link.ensures (rest_whole c.args.left c.args.bytes.now c.loop-i.i (whole c.args.left false _ c.head_refusal-number.ensures c.if-number-ne0.false)) (rest_size c.args.left c.args.bytes.now c.loop-i.i c.field_of_two-size.ensures) c.in_series-sum.ensures
 

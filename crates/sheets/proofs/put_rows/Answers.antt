@@ -1,11 +1,9 @@
 -- `sheets::put_rows` meets its contract: the rows passed stand in front, the bytes after them as they were. The measure is the
 -- layers left. Assumes nothing.
 use mathlib.Core.Path.{◌≡◌, refl, ◌∙◌}
-use Prim.Native.Nat.{ℕ, ◌≤◌, ◌<◌, ◌-◌, ◌*◌, ◌+◌}
+use Prim.Native.Nat.{ℕ, ◌-◌, ◌*◌, ◌+◌}
 use native.Mathlib.Omega.{arith}
-use lib.ListN.{length}
 use borrow.Rule.Slice.PartMut.{same_len_mid}
-use Rattle.network.specs.Widths.{depth_of}
 use Rattle.network.specs.Rows.{place_of}
 use Rattle.network.proofs.Widths.{layered}
 use Rattle.network.proofs.Rows.{take_row_array, rows_more, rows_none, row_end}
@@ -16,10 +14,10 @@ pub loop-layer-init : goal.loop-layer-init
 loop-layer-init c = (omega arith, rows_none (place_of c.args.width c.args.construction) c.args.width _, refl)
 
 pub overflow_mul-at : goal.overflow_mul-at
-overflow_mul-at c = omega (arith, (let h : c.loop-layer.layer * c.args.width + c.args.width ≤ length c.loop-layer.out = omega (arith, row_end c.loop-layer.layer c.args.depth c.args.width c.loop-layer-test.true) in h))
+overflow_mul-at c = omega (arith, row_end c.loop-layer.layer c.args.depth c.args.width c.loop-layer-test.true)
 
 pub overflow_add-end : goal.overflow_add-end
-overflow_add-end c = omega (arith, (let h : c.loop-layer.layer * c.args.width + c.args.width ≤ length c.loop-layer.out = omega (arith, row_end c.loop-layer.layer c.args.depth c.args.width c.loop-layer-test.true) in h))
+overflow_add-end c = omega (arith, row_end c.loop-layer.layer c.args.depth c.args.width c.loop-layer-test.true)
 
 pub put_row-requires : goal.put_row-requires
 put_row-requires c =
@@ -34,7 +32,7 @@ loop-layer-preserved c =
     let p = c.put_row in
     let at : ℕ = l.layer * a.width in
     let long = part_long at a.width l.out (omega (arith, row_end l.layer a.depth a.width c.loop-layer-test.true)) in
-    let row = take_row_array a.width a.construction l.layer (let h : c.loop-layer.layer < depth_of c.args.width c.args.construction = rw c.requires.0 at c.loop-layer-test.true in h) in (
+    let row = take_row_array a.width a.construction l.layer (rw c.requires.0 at c.loop-layer-test.true) in (
       omega arith,
       rows_more (place_of a.width a.construction) a.width l.layer l.out a.out.now p.new.out l.invariant.1 (p.ensures ∙ rw (long, c.row-row.ensures) row),
       same_len_mid at (at + a.width - at) l.out p.new.out p.auto.out ∙ l.invariant.2,

@@ -1,8 +1,7 @@
 -- `sheets::row_in` meets its contract: a row that is shown lies within the sheet. Assumes nothing.
 use mathlib.Core.Path.{◌≡◌, refl, sym, ◌∙◌}
-use Prim.Native.Nat.{◌+◌, ◌-◌, ◌*◌, ◌≤◌}
+use Prim.Native.Nat.{◌+◌, ◌-◌, ◌*◌}
 use native.Mathlib.Omega.{arith}
-use lib.ListN.{length}
 use borrow.Author.Tests.{eq-eqb, ne_eqb}
 use Rattle.sheets.proofs.Sheets.{view_within}
 use Rattle.sheets.proofs.row_in.Goals as goal
@@ -15,22 +14,13 @@ returns-then-view_check-ne0 c =
     }
 
 pub overflow_mul-at : goal.overflow_mul-at
-overflow_mul-at c = omega (
-  arith,
-  (let h : c.args.layer * c.args.width + c.args.width ≤ length c.args.sheet.now = let s = c.args in
-      view_within s.width s.construction s.layer _ (sym c.view_check.ensures ∙ c.if-view_check-ne0.false) in h),
-)
+overflow_mul-at c = omega (arith, view_within c.args.width c.args.construction c.args.layer _ (sym c.view_check.ensures ∙ c.if-view_check-ne0.false))
 
 pub overflow_add-end : goal.overflow_add-end
-overflow_add-end c = omega (
-  arith,
-  (let h : c.args.layer * c.args.width + c.args.width ≤ length c.args.sheet.now = let s = c.args in
-      view_within s.width s.construction s.layer _ (sym c.view_check.ensures ∙ c.if-view_check-ne0.false) in h),
-)
+overflow_add-end c = omega (arith, view_within c.args.width c.args.construction c.args.layer _ (sym c.view_check.ensures ∙ c.if-view_check-ne0.false))
 
 pub slice_bounds-result-end-2 : goal.slice_bounds-result-end-2
-slice_bounds-result-end-2 c = ((let h : c.args.layer * c.args.width + c.args.width ≤ length c.args.sheet.now = let s = c.args in
-    view_within s.width s.construction s.layer _ (sym c.view_check.ensures ∙ c.if-view_check-ne0.false) in h))
+slice_bounds-result-end-2 c = view_within c.args.width c.args.construction c.args.layer _ (sym c.view_check.ensures ∙ c.if-view_check-ne0.false)
 
 pub returns : goal.returns
 returns c =

@@ -17,12 +17,12 @@ pub put_rows-requires : goal.put_rows-requires
 unfolding sheet_length
 put_rows-requires c =
     let e = c.depth_of-depth.ensures in
-    (e, rw e (sheet_room _ _ _ (let h : sheet_no c.args.width c.args.construction (length c.args.out.now) ≡ 0 = sym c.sheet_refusal-refusal.ensures ∙ c.if-refusal-ne0.false in h)))
+    (e, rw e (sheet_room _ _ _ (sym c.sheet_refusal-refusal.ensures ∙ c.if-refusal-ne0.false)))
 
 pub returns : goal.returns
 unfolding sheet_of sheet_length
 returns c =
-    let z = (let h : sheet_no c.args.width c.args.construction (length c.args.out.now) ≡ 0 = sym c.sheet_refusal-refusal.ensures ∙ c.if-refusal-ne0.false in h) in
+    let z : sheet_no c.args.width c.args.construction (length c.args.out.now) ≡ 0 = sym c.sheet_refusal-refusal.ensures ∙ c.if-refusal-ne0.false in
     record {
       answer = rw (z, c.if-refusal-ne0.false, ← c.sheet_length.ensures);
       bytes = rw (z, length_sheet) (c.put_rows.ensures ∙ rw c.depth_of-depth.ensures);
