@@ -4,12 +4,15 @@
 // 16 KB; 9: running the first 100 bytes of one; 10: the listing of 6's; 13, 14: reading a
 // design of 64, 32 KB. Anything else, and no line at all, does nothing. `bench/peer.c`
 // does the same in plain C.
-ghost use Prim.Native.Nat.{_≤_};
+#![tactic(auto)]
+
+ghost use Rattle.std.specs.Prelude.{◌≡◌, ◌≤◌, EachIndex, slice_index, length};
+
 use moves::Turn;
 use outcome::Outcome;
-use records::Read;
-use records::Record;
+use records::{Read, Record};
 use run::Run;
+use std::io;
 
 fn plus(a: u64, b: u64) -> u64 {
     std::num::wrapping_add_u64(a, b)
@@ -25,6 +28,7 @@ fn wide(x: u32) -> u64 {
 
 // ---- 1 and 2
 
+#[derive(Clone, Copy)]
 struct Going {
     run: Run,
     sum: u64,
@@ -75,7 +79,7 @@ fn requests(construction: u16, n: u64) -> u64 {
 // ---- 3 and 4
 
 fn sheets_filled(n: u64) -> u64 {
-    let mut out = [0u8; 4096];
+    let mut out: [u8; 4096] = streams::zeros();
     let mut sum = 0u64;
     let mut i = 0u64;
     while i < n {
@@ -104,9 +108,17 @@ fn lopsided() -> Run {
     x
 }
 
+// So many zeros; see `streams::zeros`.
+fn zeros<const N: usize>() -> [u32; N]
+    ensures long { length result ≡ N }
+    ensures zero { EachIndex result (λ i. slice_index result i ≡ 0) }
+{
+    [0; N]
+}
+
 fn gaps_listed(n: u64) -> u64 {
     let x = lopsided();
-    let mut out = [0u32; 65536];
+    let mut out: [u32; 65536] = zeros();
     let mut sum = 0u64;
     let mut i = 0u64;
     while i < n {
@@ -152,7 +164,7 @@ fn record_again(i: u64, out: &mut [u8]) -> u64 {
 }
 
 fn records_again(n: u64) -> u64 {
-    let mut out = [0u8; 4096];
+    let mut out: [u8; 4096] = streams::zeros();
     let mut sum = 0u64;
     let mut i = 0u64;
     while i < n {
@@ -254,15 +266,15 @@ fn run_again(bytes: &[u8], size: usize, out: &mut [u8], n: u64) -> u64 {
 }
 
 fn schedules_run(requests: u32, size: usize, n: u64) -> u64 {
-    let mut bytes = [0u8; 65536];
-    let mut out = [0u8; 65536];
+    let mut bytes: [u8; 65536] = streams::zeros();
+    let mut out: [u8; 65536] = streams::zeros();
     put_schedule(requests, &mut bytes);
     run_again(&bytes, size, &mut out, n)
 }
 
 fn schedules_listed(n: u64) -> u64 {
-    let mut bytes = [0u8; 65536];
-    let mut out = [0u8; 65536];
+    let mut bytes: [u8; 65536] = streams::zeros();
+    let mut out: [u8; 65536] = streams::zeros();
     put_schedule(468, &mut bytes);
     let mut sum = 0u64;
     let mut i = 0u64;
@@ -309,7 +321,7 @@ fn read_again(bytes: &[u8], size: usize, n: u64) -> u64 {
     if bytes.len() < size {
         return 0;
     }
-    let mut sheet = [0u8; 2368];
+    let mut sheet: [u8; 2368] = streams::zeros();
     let mut sum = 0u64;
     let mut i = 0u64;
     while i < n {
@@ -322,13 +334,14 @@ fn read_again(bytes: &[u8], size: usize, n: u64) -> u64 {
 }
 
 fn designs_read(size: u16, n: u64) -> u64 {
-    let mut bytes = [0u8; 65535];
+    let mut bytes: [u8; 65535] = streams::zeros();
     put_design(size, &mut bytes);
     read_again(&bytes, size as usize, n)
 }
 
 // ---- the line
 
+#[derive(Clone, Copy)]
 struct Number {
     value: u64,
     at: usize,
@@ -336,7 +349,7 @@ struct Number {
 
 // The value of a decimal digit, and 10 for any other byte.
 fn digit(b: u8) -> u64
-    ensures { λ r. ⌜ r ≤ 10 ⌝ }
+    ensures { result ≤ 10 }
 {
     if b < 48 {
         return 10;
@@ -382,12 +395,12 @@ fn work(what: u64, n: u64) -> u64 {
     }
 }
 
-fn main() {
+fn main(rt: HostRuntime) -> io::Result<()> {
     let mut text = [0u8; 64];
-    let n = io::read_full(0, &mut text);
+    let n = streams::read_full(&mut rt.stdin(), &mut text)?;
     let line = &text[..n];
     let what = number_at(line, 0);
     let count = number_at(line, what.at);
-    io::print_decimal(1, work(what.value, count.value));
-    io::write_all(1, b"\n");
+    let sum = work(what.value, count.value);
+    println!(rt; "{sum}")
 }

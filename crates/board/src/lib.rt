@@ -1,13 +1,11 @@
 // The moving part of any layered network as it stands, by value: toggles, exit counts, token places and entered; and whether it is
 // sound. Width and depth come from the caller; nothing here knows a construction. Of a lent array a `requires` asks its length,
 // which is not known behind a reference.
-ghost use mathlib.Core.Path.{_≡_};
-ghost use mathlib.Core.Bool.{not};
-ghost use Prim.Native.Nat.{_+_, _*_, _/_, _<_, _≤_};
-ghost use lib.Dec.{eqb};
-ghost use lib.ListN.{length, drop};
-ghost use Rattle·board·specs.specs.Board.{freePlace, freshBoard};
-ghost use Rattle·board·specs.specs.Sound.{all, sumOf, placeOk, isZero, itself, insideOne, soundBoard};
+#![tactic(auto)]
+
+ghost use Rattle.std.specs.Prelude.{◌≡◌, not, ◌+◌, ◌*◌, ◌/◌, ◌<◌, ◌≤◌, eqb, length, drop};
+ghost use Rattle.board.specs.Board.{free_place, fresh_board};
+ghost use Rattle.board.specs.Sound.{all, sum_of, place_ok, is_zero, itself, inside_one, sound_board};
 
 // ---- limits
 
@@ -27,6 +25,7 @@ pub const CELLS: usize = 1152;
 // ---- the record
 
 // Where a token is; while it is free, level 0 and wire 0.
+#[derive(Clone, Copy)]
 pub struct Place {
     pub inside: bool,
     pub level: u16,
@@ -34,6 +33,7 @@ pub struct Place {
 }
 
 // The toggle of cell c in layer L stands at L · (w/2) + c; false is up.
+#[derive(Clone, Copy)]
 pub struct Board {
     pub entered: u32,
     pub counts: [u32; EXITS],
@@ -42,7 +42,7 @@ pub struct Board {
 }
 
 pub fn free_place() -> Place
-    ensures { λ r. ⌜ r ≡ freePlace ⌝ }
+    ensures { result ≡ free_place }
 {
     Place {
         inside: false,
@@ -53,7 +53,7 @@ pub fn free_place() -> Place
 
 // As it opens.
 pub fn fresh() -> Board
-    ensures { λ r. ⌜ r ≡ freshBoard ⌝ }
+    ensures { result ≡ fresh_board }
 {
     let free = free_place();
     let counts = [0u32; EXITS];
@@ -70,7 +70,7 @@ pub fn fresh() -> Board
 // ---- soundness
 
 fn place_ok(width: u16, depth: u16, p: Place) -> bool
-    ensures { λ r. ⌜ r ≡ placeOk width depth p ⌝ }
+    ensures { result ≡ place_ok width depth p }
 {
     if p.inside {
         return (p.level <= depth) & (p.wire < width);
@@ -79,7 +79,7 @@ fn place_ok(width: u16, depth: u16, p: Place) -> bool
 }
 
 fn places_ok(places: [Place; TOKENS], width: u16, depth: u16) -> bool
-    ensures { λ r. ⌜ r ≡ all (placeOk width depth) places ⌝ }
+    ensures { result ≡ all (place_ok width depth) places }
 {
     let mut ok = true;
     let mut i = 0;
@@ -93,8 +93,8 @@ fn places_ok(places: [Place; TOKENS], width: u16, depth: u16) -> bool
 }
 
 fn counts_zero(counts: &[u32; EXITS], from: usize) -> bool
-    requires { ⌜ length (now counts) ≡ 64 ⌝ }
-    ensures { λ r. ⌜ r ≡ all isZero (drop from (now (counts .entry))) ⌝ }
+    requires { length counts.now ≡ 64 }
+    ensures { result ≡ all is_zero (drop from counts.now) }
 {
     let mut ok = true;
     let mut i = from;
@@ -106,8 +106,8 @@ fn counts_zero(counts: &[u32; EXITS], from: usize) -> bool
 }
 
 fn toggles_up(toggles: &[bool; CELLS], from: usize) -> bool
-    requires { ⌜ length (now toggles) ≡ 1152 ⌝ }
-    ensures { λ r. ⌜ r ≡ all not (drop from (now (toggles .entry))) ⌝ }
+    requires { length toggles.now ≡ 1152 }
+    ensures { result ≡ all not (drop from toggles.now) }
 {
     let mut ok = true;
     let mut i = from;
@@ -119,21 +119,21 @@ fn toggles_up(toggles: &[bool; CELLS], from: usize) -> bool
 }
 
 fn cells(width: u16, depth: u16) -> usize
-    ensures { λ r. ⌜ r ≡ depth * (width / 2) ⌝ }
+    ensures { result ≡ depth * (width / 2) }
 {
     (depth as usize) * ((width / 2) as usize)
 }
 
 fn wide(n: u32) -> u64
-    ensures { λ r. ⌜ (r ≡ n) × (n < 4294967296) ⌝ }
+    ensures { (result ≡ n) × (n < 4294967296) }
 {
     n as u64
 }
 
 // The numbers dealt at all exits, in 64 bits: 64 counts of 32 bits do not wrap.
 fn dealt_sum(counts: &[u32; EXITS]) -> u64
-    requires { ⌜ length (now counts) ≡ 64 ⌝ }
-    ensures { λ r. ⌜ (r ≡ sumOf itself (now (counts .entry))) × (r < 64 * 4294967296) ⌝ }
+    requires { length counts.now ≡ 64 }
+    ensures { (result ≡ sum_of itself counts.now) × (result < 64 * 4294967296) }
 {
     let mut sum: u64 = 0;
     let mut i = 0;
@@ -145,13 +145,13 @@ fn dealt_sum(counts: &[u32; EXITS]) -> u64
 }
 
 fn one_inside(place: Place) -> u64
-    ensures { λ r. ⌜ (r ≡ insideOne place) × (r ≤ 1) ⌝ }
+    ensures { (result ≡ inside_one place) × (result ≤ 1) }
 {
     if place.inside { 1 } else { 0 }
 }
 
 pub fn inside_sum(places: [Place; TOKENS]) -> u64
-    ensures { λ r. ⌜ (r ≡ sumOf insideOne places) × (r ≤ 256) ⌝ }
+    ensures { (result ≡ sum_of inside_one places) × (result ≤ 256) }
 {
     let mut sum: u64 = 0;
     let mut i = 0;
@@ -164,8 +164,8 @@ pub fn inside_sum(places: [Place; TOKENS]) -> u64
 }
 
 fn adds_up(counts: &[u32; EXITS], places: [Place; TOKENS], entered: u32) -> bool
-    requires { ⌜ length (now counts) ≡ 64 ⌝ }
-    ensures { λ r. ⌜ r ≡ eqb (sumOf itself (now (counts .entry)) + sumOf insideOne places) entered ⌝ }
+    requires { length counts.now ≡ 64 }
+    ensures { result ≡ eqb (sum_of itself counts.now + sum_of inside_one places) entered }
 {
     let sum = dealt_sum(counts) + inside_sum(places);
     sum == wide(entered)
@@ -173,7 +173,7 @@ fn adds_up(counts: &[u32; EXITS], places: [Place; TOKENS], entered: u32) -> bool
 
 // Is the board sound for a network of this width and depth?
 pub fn is_sound(board: Board, width: u16, depth: u16) -> bool
-    ensures { λ r. ⌜ r ≡ soundBoard width depth board ⌝ }
+    ensures { result ≡ sound_board width depth board }
 {
     let entered = board.entered;
     let places = board.places;

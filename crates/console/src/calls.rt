@@ -1,10 +1,9 @@
 // Which call a line is. A call has a name, and then words of the kinds that it asks, a letter each: a number of 16 bits (s),
 // one of 32 bits (l), the length of what is lent (r), the kind of a record (1 to 5), bytes in hex (h), those of a feed sheet (f), a
 // list of a record (c, t, p, d).
-ghost use Prim.Native.Nat.{_≤_};
-use console_lines::numbers;
-use console_lines::parts;
-use console_lines::words;
+ghost use Rattle.std.specs.Prelude.{◌≤◌};
+
+use console_lines::{numbers, parts, words};
 
 // The number of a line's call among these, from 0; 31 where it is none.
 //   0 open ss      8 dopen ss       16 frecord      24 panel rh
@@ -16,7 +15,7 @@ use console_lines::words;
 //   6 fenter ss    14 record        22 read h       30 write r5ssl
 //   7 fturn s      15 gaps r        23 run rh
 pub fn call_of(line: &[u8]) -> usize
-    ensures { λ r. ⌜ r ≤ 31 ⌝ }
+    ensures { result ≤ 31 }
 {
     let table =
         b"open ss,set sslctp,enter ss,turn s,fopen ss,fset sslctp,fenter ss,fturn s,dopen ss,dset sslctpd,denter ss,dturn s,poll s,feed f,record ,gaps r,frecord ,fgaps r,drecord ,highest sc,sheet ssr,view sssrr,read h,run rh,panel rh,help ,write r1ss,write r2ss,write r3s,write r4l,write r5ssl";
@@ -51,7 +50,7 @@ fn fits(word: &[u8], kind: u8) -> bool {
 // Is the line this call, written as in the table?
 fn is(line: &[u8], call: &[u8]) -> bool {
     let kinds = words::word(call, 1);
-    if !check::same(words::word(line, 0), words::word(call, 0)) {
+    if !parts::same(words::word(line, 0), words::word(call, 0)) {
         return false;
     }
     if words::count(line) != kinds.len() + 1 {

@@ -1,22 +1,24 @@
 // Every public call of the cabinet's software by a line of text: for a fitter at the bench, and for tests. Each line of
 // standard input has one line for an answer; a line that is no call is answered `?` and changes nothing.
-ghost use Prim.Native.Nat.{_≤_};
-ghost use mathlib.Core.Path.{_≡_};
-ghost use lib.ListN.{length};
-ghost use Rattle·console_lines.specs.Bounds.{Held};
+#![tactic(auto)]
+
+ghost use Rattle.std.specs.Prelude.{◌≤◌, ◌≡◌, length};
+ghost use Rattle.console_lines.specs.Bounds.{Held};
 
 mod calls;
 
-use console_bytes::record_calls;
-use console_bytes::sheet_calls;
+use console_bytes::{record_calls, sheet_calls};
 use console_lines::input;
 use console_lines::input::Lines;
 use console_run::Answered;
 use feeds::FeedRun;
 use run::Run;
 use small::Cabinet;
+use std::io;
+use std::io::{Read, Write};
 
 // What the console holds besides the bytes of the feed sheet: a record of each product, and how many bytes that sheet has.
+#[derive(Clone, Copy)]
 struct Holding {
     run: Run,
     feed: FeedRun,
@@ -25,6 +27,7 @@ struct Holding {
 }
 
 // What the console holds after a line, and where the answer ends.
+#[derive(Clone, Copy)]
 struct Told {
     holding: Holding,
     end: usize,
@@ -123,7 +126,7 @@ fn answer_call(
     sheet: &[u8],
     mut holding: Holding,
 ) -> Told
-    ensures { λ r. ⌜ r .holding .fed ≡ holding .fed ⌝ }
+    ensures { result.holding.fed ≡ holding.fed }
 {
     if call < 4 {
         let run = holding.run;
@@ -159,8 +162,8 @@ fn answer_call(
 
 // Answers a line.
 fn answer(line: &[u8], text: &mut [u8], sheet: &mut [u8], mut holding: Holding) -> Told
-    requires { ⌜ holding .fed ≤ length (now sheet) ⌝ }
-    ensures { λ r. ⌜ r .holding .fed ≤ length (now (sheet .exit)) ⌝ }
+    requires { holding.fed ≤ length sheet.old }
+    ensures { result.holding.fed ≤ length sheet.new }
 {
     let call = calls::call_of(line);
     if call == 13 {
@@ -181,8 +184,8 @@ fn answer_held(
     sheet: &mut [u8],
     holding: Holding,
 ) -> Told
-    requires { ⌜ Held (lines .from) (lines .end) (lines .to) (length (now input)) × (holding .fed ≤ length (now sheet)) ⌝ }
-    ensures { λ r. ⌜ r .holding .fed ≤ length (now (sheet .exit)) ⌝ }
+    requires { Held lines.from lines.end lines.to (length input.now) × (holding.fed ≤ length sheet.old) }
+    ensures { result.holding.fed ≤ length sheet.new }
 {
     if lines.too_long {
         let end = put_unknown(text);
@@ -195,7 +198,7 @@ fn answer_held(
 
 // What the console holds at first: records of refused openings, and no feed sheet.
 fn at_first() -> Holding
-    ensures { λ r. ⌜ r .fed ≡ 0 ⌝ }
+    ensures { result.fed ≡ 0 }
 {
     let none = [0u8; 0];
     let opened = Run::open(0, 0);
@@ -213,23 +216,36 @@ fn at_first() -> Holding
 }
 
 // Answers lines to the end of the input.
-fn serve(input: &mut [u8], text: &mut [u8], sheet: &mut [u8]) {
+fn serve<R: Read, W: Write>(
+    reader: &mut R,
+    writer: &mut W,
+    input: &mut [u8],
+    text: &mut [u8],
+    sheet: &mut [u8],
+) -> io::Result<()> {
     let mut holding = at_first();
-    let mut lines = input::next_line(input, input::start());
+    let mut lines = input::next_line(reader, input, input::start())?;
     let mut turns = u64::MAX;
     while turns > 0 && !lines.done {
         let told = answer_held(input, lines, text, sheet, holding);
-        console_answers::send(text, told.end);
+        console_answers::send(writer, text, told.end)?;
         holding = told.holding;
-        lines = input::next_line(input, lines);
+        lines = input::next_line(reader, input, lines)?;
         turns -= 1;
     }
+    Ok(())
 }
 
 // The input holds the longest line and its line feed, the text the longest answer: 65,536 numbers of 10 digits.
-fn main() {
-    let mut input = [0u8; 262_145];
-    let mut text = [0u8; 800_000];
-    let mut sheet = [0u8; 65_536];
-    serve(&mut input, &mut text, &mut sheet);
+fn main(rt: HostRuntime) -> io::Result<()> {
+    let mut input: [u8; 262_145] = streams::zeros();
+    let mut text: [u8; 800_000] = streams::zeros();
+    let mut sheet: [u8; 65_536] = streams::zeros();
+    serve(
+        &mut rt.stdin(),
+        &mut rt.stdout(),
+        &mut input,
+        &mut text,
+        &mut sheet,
+    )
 }

@@ -1,17 +1,23 @@
 // What the console answers: a line, put into the front of a lent text, and sent. A put answers where the line ends.
-ghost use Rattle·text.specs.Text.{Puts};
-ghost use Rattle·console_answers·specs.specs.Answers.{refusalLine, headOf, valuesLine, bytesLine, numbersLine};
-use libc::STDOUT_FILENO;
+#![tactic(auto)]
+
+ghost use Rattle.std.specs.Prelude.{ℕ, ◌<◌, ◌≤◌, IsOk, OnOk, OnErr, length, take};
+ghost use Rattle.std.specs.Io.KnownBytes.{Appends, Keeps};
+ghost use Rattle.text.specs.Text.{Puts};
+ghost use Rattle.console_answers.specs.Answers.{refusal_line, head_of, values_line, bytes_line, numbers_line};
+
+use std::io;
+use std::io::Write;
 
 // The refusal number alone.
 pub fn put_refusal(out: &mut [u8], refusal: u8) -> usize
-    ensures { λ r. ⌜ Puts (refusalLine refusal) 0 (now (out .entry)) r (now (out .exit)) ⌝ }
+    ensures { Puts (refusal_line refusal) 0 out.old result out.new }
 {
     text::put_number(out, 0, refusal as usize, b'\n')
 }
 
 fn put_head(out: &mut [u8], refusal: u8, values: &[usize]) -> usize
-    ensures { λ r. ⌜ Puts (headOf refusal (now (values .entry))) 0 (now (out .entry)) r (now (out .exit)) ⌝ }
+    ensures { Puts (head_of refusal values.now) 0 out.old result out.new }
 {
     let next = text::put_decimal(out, 0, refusal as usize);
     text::put_row(out, next, values)
@@ -19,7 +25,7 @@ fn put_head(out: &mut [u8], refusal: u8, values: &[usize]) -> usize
 
 // The refusal number and some values.
 pub fn put_values(out: &mut [u8], refusal: u8, values: &[usize]) -> usize
-    ensures { λ r. ⌜ Puts (valuesLine refusal (now (values .entry))) 0 (now (out .entry)) r (now (out .exit)) ⌝ }
+    ensures { Puts (values_line refusal values.now) 0 out.old result out.new }
 {
     let next = put_head(out, refusal, values);
     text::put_byte(out, next, b'\n')
@@ -27,7 +33,7 @@ pub fn put_values(out: &mut [u8], refusal: u8, values: &[usize]) -> usize
 
 // The same, and bytes.
 pub fn put_bytes(out: &mut [u8], refusal: u8, values: &[usize], bytes: &[u8]) -> usize
-    ensures { λ r. ⌜ Puts (bytesLine refusal (now (values .entry)) (now (bytes .entry))) 0 (now (out .entry)) r (now (out .exit)) ⌝ }
+    ensures { Puts (bytes_line refusal values.now bytes.now) 0 out.old result out.new }
 {
     let next = put_head(out, refusal, values);
     let blank = text::put_byte(out, next, b' ');
@@ -37,7 +43,7 @@ pub fn put_bytes(out: &mut [u8], refusal: u8, values: &[usize], bytes: &[u8]) ->
 
 // The same, and numbers.
 pub fn put_numbers(out: &mut [u8], refusal: u8, values: &[usize], numbers: &[u32]) -> usize
-    ensures { λ r. ⌜ Puts (numbersLine refusal (now (values .entry)) (now (numbers .entry))) 0 (now (out .entry)) r (now (out .exit)) ⌝ }
+    ensures { Puts (numbers_line refusal values.now numbers.now) 0 out.old result out.new }
 {
     let next = put_head(out, refusal, values);
     let blank = text::put_byte(out, next, b' ');
@@ -45,9 +51,15 @@ pub fn put_numbers(out: &mut [u8], refusal: u8, values: &[usize], numbers: &[u32
     text::put_byte(out, end, b'\n')
 }
 
-// Sends the line that ends there. No answer is longer than the text that the console lends.
-pub fn send(text: &[u8], end: usize) {
+// Sends the line that ends there. No answer is longer than the text that the console lends. An error is the writer's own, or that
+// it takes no more, and what stands before some place of the line was sent then.
+pub fn send<W: Write>(writer: &mut W, text: &[u8], end: usize) -> io::Result<()>
+    ensures sent { end ≤ length text.now → OnOk result (Appends (W.contents writer.old) (W.contents writer.new) (take end text.now)) }
+    ensures kept { length text.now < end → IsOk result × Keeps (W.contents writer.old) (W.contents writer.new) }
+    ensures err { OnErr result ((n : ℕ) × (n ≤ end) × Appends (W.contents writer.old) (W.contents writer.new) (take n (take end text.now))) }
+{
     if end <= text.len() {
-        io::write_all(STDOUT_FILENO, &text[0..end]);
+        streams::write_whole(writer, &text[0..end])?;
     }
+    Ok(())
 }

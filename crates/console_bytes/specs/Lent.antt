@@ -1,8 +1,6 @@
 -- The bytes that the console lends to a call. Definitions only. Assumes nothing.
-use Prim.Native.Nat.{ℕ}
-use mathlib.Core.List.{List}
-use lib.ListN.{take, replicate}
+use Rattle.std.specs.Prelude.{ℕ, List, take, replicate}
 
 -- bytes to fill: the first of as many as the console has, each aa
-abbrev pub lentBytes : ℕ → List ℕ
-lentBytes room = take room (replicate 65536 170)
+abbrev pub lent_bytes : ℕ → List ℕ
+lent_bytes room = take room (replicate 65536 170)

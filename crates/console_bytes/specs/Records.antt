@@ -1,46 +1,43 @@
 -- The answers to the calls on records and schedules. Definitions only. Assumes nothing.
-use Prim.Native.Nat.{ℕ}
-use mathlib.Core.Bool.{true}
-use mathlib.Core.List.{List, [], _∷_}
-use lib.ListN.{take}
-use Rattle·text.specs.Text.{Puts}
-use Rattle·records.specs.declared.Record.{Record}
-use Rattle·records.specs.declared.Record.the-variants.{Open, Enter, Turn, Close, Number}
-use Rattle·records.specs.declared.Read.{Read}
-use Rattle·records.specs.declared.Read.the-variants.{Got, Refused as NotRead}
-use Rattle·outcome.specs.declared.Outcome.{Outcome}
-use Rattle·outcome.specs.declared.Outcome.the-variants.{Accepted, Refused}
-use Rattle·records.specs.Reading.{readOf}
-use Rattle·outcome.specs.Whole.{Ran}
-use Rattle·console_lines.specs.Hex.{HexPut}
-use Rattle·console_lines.specs.Words.{wordAt, roomAt}
-use Rattle·console_answers.specs.Answers.{valuesLine, bytesLine}
-use Rattle·console_bytes·specs.specs.Lent.{lentBytes}
+use Rattle.std.specs.Prelude.{ℕ, true, List, [], ◌∷◌, take}
+use Rattle.text.specs.Text.{Puts}
+use Rattle.records.specs.declared.Record.{Record}
+use Rattle.records.specs.declared.Record.TheVariants.{Open, Enter, Turn, Close, Number}
+use Rattle.records.specs.declared.Read.{Read}
+use Rattle.records.specs.declared.Read.TheVariants.{Got, Refused as NotRead}
+use Rattle.outcome.specs.declared.Outcome.{Outcome}
+use Rattle.outcome.specs.declared.Outcome.TheVariants.{Accepted, Refused}
+use Rattle.records.specs.Reading.{read_of}
+use Rattle.outcome.specs.Whole.{Ran}
+use Rattle.console_lines.specs.Hex.{HexPut}
+use Rattle.console_lines.specs.Words.{word_at, room_at}
+use Rattle.console_answers.specs.Answers.{values_line, bytes_line}
+use Rattle.console_bytes.specs.Lent.{lent_bytes}
 
 -- a record that was read: kind, length, fields
-unfoldable pub shownOf : ℕ → Record → List ℕ
-shownOf size (Open w c) = 1 ∷ size ∷ w ∷ c ∷ []
-shownOf size (Enter t v) = 2 ∷ size ∷ t ∷ v ∷ []
-shownOf size (Turn t) = 3 ∷ size ∷ t ∷ []
-shownOf size (Close e) = 4 ∷ size ∷ e ∷ []
-shownOf size (Number t v n) = 5 ∷ size ∷ t ∷ v ∷ n ∷ []
+unfoldable pub shown_of : ℕ → Record → List ℕ
+shown_of size (Open w c) = 1 ∷ size ∷ w ∷ c ∷ []
+shown_of size (Enter t v) = 2 ∷ size ∷ t ∷ v ∷ []
+shown_of size (Turn t) = 3 ∷ size ∷ t ∷ []
+shown_of size (Close e) = 4 ∷ size ∷ e ∷ []
+shown_of size (Number t v n) = 5 ∷ size ∷ t ∷ v ∷ n ∷ []
 
 -- `0 KIND LENGTH FIELD ..`, or `R PRESENT`
-unfoldable pub readLine : Read → List ℕ
-readLine (Got item size) = valuesLine 0 (shownOf size item)
-readLine (NotRead number present) = valuesLine number (present ∷ [])
+unfoldable pub read_line : Read → List ℕ
+read_line (Got item size) = values_line 0 (shown_of size item)
+read_line (NotRead number present) = values_line number (present ∷ [])
 
 -- `read HEX`: of the bytes that the word spells
 pub record ReadAnswered (line before : List ℕ) (end : ℕ) (after : List ℕ) : Type 0 where
   pub bytes : List ℕ
   pub count : ℕ
-  pub spelt : HexPut (wordAt line 1) bytes count
-  pub puts : Puts (readLine (readOf true (take count bytes))) 0 before end after
+  pub spelt : HexPut (word_at line 1) bytes count
+  pub puts : Puts (read_line (read_of true (take count bytes))) 0 before end after
 
 -- `R RECORD OFFSET PRESENT N HEX`
-unfoldable pub runLine : Outcome → List ℕ → List ℕ
-runLine (Accepted w c e b) lent = bytesLine 0 (0 ∷ 0 ∷ 0 ∷ b ∷ []) lent
-runLine (Refused number n at present) lent = bytesLine number (n ∷ at ∷ present ∷ 0 ∷ []) lent
+unfoldable pub run_line : Outcome → List ℕ → List ℕ
+run_line (Accepted w c e b) lent = bytes_line 0 (0 ∷ 0 ∷ 0 ∷ b ∷ []) lent
+run_line (Refused number n at present) lent = bytes_line number (n ∷ at ∷ present ∷ 0 ∷ []) lent
 
 -- `run ROOM HEX`: the outcome for the bytes that the word spells, and the lent bytes after it
 pub record RunAnswered (line before : List ℕ) (end : ℕ) (after : List ℕ) : Type 0 where
@@ -48,6 +45,6 @@ pub record RunAnswered (line before : List ℕ) (end : ℕ) (after : List ℕ) :
   pub count : ℕ
   pub outcome : Outcome
   pub lent : List ℕ
-  pub spelt : HexPut (wordAt line 2) bytes count
-  pub called : Ran (take count bytes) (lentBytes (roomAt line 1)) outcome lent
-  pub puts : Puts (runLine outcome lent) 0 before end after
+  pub spelt : HexPut (word_at line 2) bytes count
+  pub called : Ran (take count bytes) (lent_bytes (room_at line 1)) outcome lent
+  pub puts : Puts (run_line outcome lent) 0 before end after

@@ -1,19 +1,18 @@
 // The calls on records and schedules. A line is the call that it is handed to.
-ghost use Rattle·text.specs.Text.{Puts};
-ghost use Rattle·console_answers.specs.Answers.{valuesLine};
-ghost use Rattle·console_bytes·specs.specs.Records.{shownOf, readLine, ReadAnswered, runLine, RunAnswered};
+ghost use Rattle.text.specs.Text.{Puts};
+ghost use Rattle.console_answers.specs.Answers.{values_line};
+ghost use Rattle.console_bytes.specs.Records.{shown_of, read_line, ReadAnswered, run_line, RunAnswered};
+
 use crate::buffers;
-use console_lines::numbers;
-use console_lines::words;
+use console_lines::{numbers, words};
 use outcome::Outcome;
-use records::Read;
-use records::Record;
+use records::{Read, Record};
 
 // ---- read
 
 // `0 KIND LENGTH FIELD ..`
 fn put_item(text: &mut [u8], size: usize, item: Record) -> usize
-    ensures { λ r. ⌜ Puts (valuesLine 0 (shownOf size item)) 0 (now (text .entry)) r (now (text .exit)) ⌝ }
+    ensures { Puts (values_line 0 (shown_of size item)) 0 text.old result text.new }
 {
     match item {
         Record::Open {
@@ -47,7 +46,7 @@ fn put_item(text: &mut [u8], size: usize, item: Record) -> usize
 }
 
 fn put_read(text: &mut [u8], read: Read) -> usize
-    ensures { λ r. ⌜ Puts (readLine read) 0 (now (text .entry)) r (now (text .exit)) ⌝ }
+    ensures { Puts (read_line read) 0 text.old result text.new }
 {
     match read {
         Read::Got(item, size) => put_item(text, size, item),
@@ -60,7 +59,7 @@ fn put_read(text: &mut [u8], read: Read) -> usize
 
 // `read HEX`
 pub fn read(line: &[u8], text: &mut [u8]) -> usize
-    ensures { λ r. ⌜ ReadAnswered (now (line .entry)) (now (text .entry)) r (now (text .exit)) ⌝ }
+    ensures { ReadAnswered line.now text.old result text.new }
 {
     let mut bytes = buffers::spelt();
     let count = numbers::hex(words::word(line, 1), &mut bytes);
@@ -110,7 +109,7 @@ pub fn write(line: &[u8], text: &mut [u8]) -> usize {
 
 // `R RECORD OFFSET PRESENT N HEX`
 fn put_outcome(text: &mut [u8], outcome: Outcome, lent: &[u8]) -> usize
-    ensures { λ r. ⌜ Puts (runLine outcome (now (lent .entry))) 0 (now (text .entry)) r (now (text .exit)) ⌝ }
+    ensures { Puts (run_line outcome lent.now) 0 text.old result text.new }
 {
     match outcome {
         Outcome::Accepted {
@@ -136,7 +135,7 @@ fn put_outcome(text: &mut [u8], outcome: Outcome, lent: &[u8]) -> usize
 
 // `run ROOM HEX`: a schedule, and the whole lent buffer after the call. The run that the console holds has no part in it.
 pub fn run(line: &[u8], text: &mut [u8]) -> usize
-    ensures { λ r. ⌜ RunAnswered (now (line .entry)) (now (text .entry)) r (now (text .exit)) ⌝ }
+    ensures { RunAnswered line.now text.old result text.new }
 {
     let room = words::room(line, 1);
     let mut bytes = buffers::spelt();

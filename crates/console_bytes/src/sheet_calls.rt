@@ -1,11 +1,12 @@
 // The calls on sheets. A line is the call that it is handed to.
-ghost use Rattle·console_bytes·specs.specs.Sheets.{SheetAnswered};
+ghost use Rattle.console_bytes.specs.Sheets.{SheetAnswered};
+
 use crate::buffers;
 use console_lines::words;
 
 // `sheet W C LEN`: the whole lent buffer after the call.
 pub fn sheet(line: &[u8], text: &mut [u8]) -> usize
-    ensures { λ r. ⌜ SheetAnswered (now (line .entry)) (now (text .entry)) r (now (text .exit)) ⌝ }
+    ensures { SheetAnswered line.now text.old result text.new }
 {
     let room = words::room(line, 3);
     let mut buffer = buffers::bytes();

@@ -1,21 +1,25 @@
 // The console's calls on the run over a feed sheet that it holds, and on that sheet, which it lends to them. A line is the call that
 // it is handed to; its answer is put into the front of a lent text. A call that changes the run gives the run after it.
-ghost use Rattle·text.specs.Text.{Puts};
-ghost use Rattle·feeds.specs.Feeds.{feedSound};
-ghost use Rattle·console_record.specs.Record.{recordLine};
-ghost use Rattle·console_run.specs.Calls.{Answers, SetIs, GapsAnswered};
-ghost use Rattle·console_feed·specs.specs.Calls.{FeedPut, afterOpen, openLine, afterEnter, enterLine, afterTurn, turnLine};
-use console_lines::numbers;
-use console_lines::words;
+#![tactic(auto)]
+
+ghost use Rattle.text.specs.Text.{Puts};
+ghost use Rattle.feeds.specs.Feeds.{feed_sound};
+ghost use Rattle.console_record.specs.Record.{record_line};
+ghost use Rattle.console_run.specs.Calls.{Answers, SetIs, GapsAnswered};
+ghost use Rattle.console_feed.specs.Calls.{FeedPut, after_open, open_line, after_enter, enter_line, after_turn, turn_line};
+
+use console_lines::{numbers, words};
 use feeds::FeedRun;
 
 // How many bytes the feed sheet has after a call, and where its answer ends.
+#[derive(Clone, Copy)]
 pub struct Fed {
     pub count: usize,
     pub end: usize,
 }
 
 // The run after a call, and where its answer ends.
+#[derive(Clone, Copy)]
 pub struct Answered {
     pub run: FeedRun,
     pub end: usize,
@@ -23,7 +27,7 @@ pub struct Answered {
 
 // `feed HEX`: the sheet that is lent from now on, good or not.
 pub fn feed(line: &[u8], text: &mut [u8], sheet: &mut [u8]) -> Fed
-    ensures { λ r. ⌜ FeedPut (now (line .entry)) (now (sheet .exit)) (r .count) (now (text .entry)) (r .end) (now (text .exit)) ⌝ }
+    ensures { FeedPut line.now sheet.new result.count text.old result.end text.new }
 {
     let count = numbers::hex(words::word(line, 1), sheet);
     let end = text::put_number(text, 0, count, b'\n');
@@ -32,7 +36,7 @@ pub fn feed(line: &[u8], text: &mut [u8], sheet: &mut [u8]) -> Fed
 
 // `fopen W D`
 pub fn open(line: &[u8], text: &mut [u8], sheet: &[u8]) -> Answered
-    ensures { λ r. ⌜ Answers (afterOpen (now (line .entry)) (now (sheet .entry))) (r .run) (openLine (now (line .entry)) (now (sheet .entry))) (now (text .entry)) (r .end) (now (text .exit)) ⌝ }
+    ensures { Answers (after_open line.now sheet.now) result.run (open_line line.now sheet.now) text.old result.end text.new }
 {
     let opened = FeedRun::open(words::short(line, 1), words::short(line, 2), sheet);
     let end = console_answers::put_refusal(text, opened.refusal);
@@ -42,7 +46,7 @@ pub fn open(line: &[u8], text: &mut [u8], sheet: &[u8]) -> Answered
 
 // `fset W D ENTERED COUNTS TOGGLES PLACES`: any record, sound or not.
 pub fn set(line: &[u8], text: &mut [u8]) -> Answered
-    ensures { λ r. ⌜ SetIs (now (line .entry)) (r .run .width) (r .run .depth) (r .run .board .entered) (feedSound (r .run)) (now (text .entry)) (r .end) (now (text .exit)) ⌝ }
+    ensures { SetIs line.now result.run.width result.run.depth result.run.board.entered (feed_sound result.run) text.old result.end text.new }
 {
     let board = console_lists::board_in(line);
     let run = FeedRun {
@@ -56,7 +60,7 @@ pub fn set(line: &[u8], text: &mut [u8]) -> Answered
 
 // `fenter T V`
 pub fn enter(line: &[u8], text: &mut [u8], run: FeedRun, sheet: &[u8]) -> Answered
-    ensures { λ r. ⌜ Answers (afterEnter (now (line .entry)) run (now (sheet .entry))) (r .run) (enterLine (now (line .entry)) run (now (sheet .entry))) (now (text .entry)) (r .end) (now (text .exit)) ⌝ }
+    ensures { Answers (after_enter line.now run sheet.now) result.run (enter_line line.now run sheet.now) text.old result.end text.new }
 {
     let entered = run.enter(words::short(line, 1), words::short(line, 2), sheet);
     let end = console_answers::put_refusal(text, entered.refusal);
@@ -66,7 +70,7 @@ pub fn enter(line: &[u8], text: &mut [u8], run: FeedRun, sheet: &[u8]) -> Answer
 
 // `fturn T`
 pub fn turn(line: &[u8], text: &mut [u8], run: FeedRun, sheet: &[u8]) -> Answered
-    ensures { λ r. ⌜ Answers (afterTurn (now (line .entry)) run (now (sheet .entry))) (r .run) (turnLine (now (line .entry)) run (now (sheet .entry))) (now (text .entry)) (r .end) (now (text .exit)) ⌝ }
+    ensures { Answers (after_turn line.now run sheet.now) result.run (turn_line line.now run sheet.now) text.old result.end text.new }
 {
     let turned = run.turn(words::short(line, 1), sheet);
     let answer = turned.answer;
@@ -77,7 +81,7 @@ pub fn turn(line: &[u8], text: &mut [u8], run: FeedRun, sheet: &[u8]) -> Answere
 
 // `fgaps ROOM`: the whole lent slice after the call.
 pub fn gaps(line: &[u8], text: &mut [u8], run: FeedRun) -> usize
-    ensures { λ r. ⌜ GapsAnswered (now (line .entry)) (feedSound run) (run .width) (run .board) (now (text .entry)) r (now (text .exit)) ⌝ }
+    ensures { GapsAnswered line.now (feed_sound run) run.width run.board text.old result text.new }
 {
     let room = words::room(line, 1);
     let mut buffer = console_run::buffer();
@@ -89,7 +93,7 @@ pub fn gaps(line: &[u8], text: &mut [u8], run: FeedRun) -> usize
 
 // `frecord`
 pub fn record(text: &mut [u8], run: FeedRun) -> usize
-    ensures { λ r. ⌜ Puts (recordLine (run .width) (run .depth) (run .board)) 0 (now (text .entry)) r (now (text .exit)) ⌝ }
+    ensures { Puts (record_line run.width run.depth run.board) 0 text.old result text.new }
 {
     let board = run.board;
     console_record::put_record(text, run.width, run.depth, board)

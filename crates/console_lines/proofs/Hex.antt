@@ -1,48 +1,48 @@
 -- Laws of bytes in hex. In order: texts that are pairs of digits, or are not; one byte more. Assumes nothing.
-use Prim.Native.Nat.{ℕ, _+_, _*_, _%_, _<_}
+use Prim.Native.Nat.{ℕ, ◌+◌, ◌*◌, ◌%◌, ◌<◌}
 use native.Mathlib.Omega.{arith}
-use mathlib.Core.Path.{_≡_, refl, _∙_}
-use mathlib.Core.Bool.{Bool, true, false, _&&_, and-true, and-false}
-use mathlib.Core.List.{List, [], _∷_}
+use mathlib.Core.Path.{◌≡◌, refl, ◌∙◌}
+use mathlib.Core.Bool.{Bool, true, false, ◌&&◌, and-true, and-false}
+use mathlib.Core.List.{List, [], ◌∷◌}
 use lib.Dec.{ltb, eqb}
-use lib.ListN.{length, getD, set}
-use lib.Seq.{getD-set-same, getD-set-other}
-use borrow.Author.Count.{below-more}
-use Rattle·console_lines·specs.specs.Digits.{allBelow, DigitIs}
-use Rattle·console_lines·specs.specs.Hex.{isPairs, HexIs, hexByte}
+use lib.ListN.{length, get_or, set}
+use lib.Seq.{get_or-set_same, get_or-set_other}
+use borrow.Author.Count.{below_more}
+use Rattle.console_lines.specs.Digits.{all_below, DigitIs}
+use Rattle.console_lines.specs.Hex.{is_pairs, HexIs, hex_byte}
 
 -- ---- is it hex?
 
 module _ {text : List ℕ} where
-  pub hex-dash : text ≡ 45 ∷ [] → HexIs text true
-  hex-dash is-dash = record { dash = λ _. refl; pairs = λ apart. absurd (apart is-dash) }
+  pub hex_dash : text ≡ 45 ∷ [] → HexIs text true
+  hex_dash is-dash = record { dash = λ _. refl; pairs = λ apart. absurd (apart is-dash) }
 
-  pub not-dash : {is : Bool} → (text ≡ 45 ∷ [] → is ≡ true) → is ≡ false → text ≡ 45 ∷ [] → ⊥
-  not-dash same differs is-dash =
-      let both : _≡_ {A = ℕ} 0 1 = cc (same is-dash) in
+  pub not_dash : {is : Bool} → (text ≡ 45 ∷ [] → is ≡ true) → is ≡ false → text ≡ 45 ∷ [] → ⊥
+  not_dash same differs is-dash =
+      let both : ◌≡◌ {A = ℕ} 0 1 = cc (same is-dash) in
       omega arith
 
   module _ (apart : text ≡ 45 ∷ [] → ⊥) where
-    pub hex-other : allBelow 16 text ≡ false → HexIs text false
-    unfolding isPairs
-    hex-other other = record { dash = λ is-dash. absurd (apart is-dash); pairs = λ _. rw (other, and-false) }
+    pub hex_other : all_below 16 text ≡ false → HexIs text false
+    unfolding is_pairs
+    hex_other other = record { dash = λ is-dash. absurd (apart is-dash); pairs = λ _. rw (other, and-false) }
 
-    pub hex-pairs : allBelow 16 text ≡ true → HexIs text (ltb 0 (length text) && eqb (length text % 2) 0)
-    unfolding isPairs
-    hex-pairs digits = record { dash = λ is-dash. absurd (apart is-dash); pairs = λ _. rw (digits, and-true) }
+    pub hex_pairs : all_below 16 text ≡ true → HexIs text (ltb 0 (length text) && eqb (length text % 2) 0)
+    unfolding is_pairs
+    hex_pairs digits = record { dash = λ is-dash. absurd (apart is-dash); pairs = λ _. rw (digits, and-true) }
 
 -- ---- one byte more
 
 module _ (text : List ℕ) (i : ℕ) where
-  pub hex-byte : {high low : ℕ} → DigitIs (getD text (2 * i) 0) high → DigitIs (getD text (2 * i + 1) 0) low → high % 16 * 16 + low % 16 ≡ hexByte text i
-  unfolding hexByte
-  hex-byte high low = rw (high .is, low .is)
+  pub hex_byte_lem : {high low : ℕ} → DigitIs (get_or text (2 * i) 0) high → DigitIs (get_or text (2 * i + 1) 0) low → high % 16 * 16 + low % 16 ≡ hex_byte text i
+  unfolding hex_byte
+  hex_byte_lem high low = rw (high.is, low.is)
 
   -- a byte that is put leaves those in front of it
-  pub byte-more : (out : List ℕ) (value : ℕ) → i < length out → ((k : ℕ) → k < i → getD out k 0 ≡ hexByte text k) → value ≡ hexByte text i → (k : ℕ) → k < i + 1 → getD (set out i value) k 0 ≡ hexByte text k
-  byte-more out value room before is =
-      below-more
-      (λ (k : ℕ). getD (set out i value) k 0 ≡ hexByte text k)
+  pub byte_more : (out : List ℕ) (value : ℕ) → i < length out → ((k : ℕ) → k < i → get_or out k 0 ≡ hex_byte text k) → value ≡ hex_byte text i → (k : ℕ) → k < i + 1 → get_or (set out i value) k 0 ≡ hex_byte text k
+  byte_more out value room before is =
+      below_more
+      (λ (k : ℕ). get_or (set out i value) k 0 ≡ hex_byte text k)
       i
-      (λ k front. getD-set-other out i k value 0 (λ e. omega arith) ∙ before k front)
-      (getD-set-same out i value 0 room ∙ is)
+      (λ k front. get_or-set_other out i k value 0 (λ e. omega arith) ∙ before k front)
+      (get_or-set_same out i value 0 room ∙ is)

@@ -1,41 +1,36 @@
 -- The number that a text spells in decimal. Definitions only. Assumes nothing.
-use Prim.Native.Nat.{ℕ, _+_, _-_, _*_, _≤_}
-use mathlib.Core.Path.{_≡_}
-use mathlib.Core.Bool.{Bool, true, false, cond, _&&_}
-use mathlib.Core.List.{List, [], _∷_}
-use lib.Dec.{ltb, leb}
-use lib.ListN.{length}
+use Rattle.std.specs.Prelude.{ℕ, ◌+◌, ◌-◌, ◌*◌, ◌≤◌, ◌≡◌, Bool, true, false, cond, ◌&&◌, List, [], ◌∷◌, ltb, leb, length}
 
 -- the value of a hex digit, and 16 where the byte is none; letters are lower case
-unfoldable pub digitOf : ℕ → ℕ
-digitOf glyph =
+unfoldable pub digit_of : ℕ → ℕ
+digit_of glyph =
     cond
     (ltb glyph 48)
     16
     (cond (leb glyph 57) (glyph - 48) (cond (ltb glyph 97) 16 (cond (leb glyph 102) (glyph - 97 + 10) 16)))
 
 -- is each byte a digit below the base?
-unfoldable pub allBelow : ℕ → List ℕ → Bool
-allBelow base [] = true
-allBelow base (glyph ∷ rest) = ltb (digitOf glyph) base && allBelow base rest
+unfoldable pub all_below : ℕ → List ℕ → Bool
+all_below base [] = true
+all_below base (glyph ∷ rest) = ltb (digit_of glyph) base && all_below base rest
 
 -- the number that decimal digits spell, behind one that is read already
-unfoldable pub speltFrom : ℕ → List ℕ → ℕ
-speltFrom value [] = value
-speltFrom value (glyph ∷ rest) = speltFrom (value * 10 + digitOf glyph) rest
+unfoldable pub spelt_from : ℕ → List ℕ → ℕ
+spelt_from value [] = value
+spelt_from value (glyph ∷ rest) = spelt_from (value * 10 + digit_of glyph) rest
 
 -- is the text a decimal number of one to ten digits, at most `most`?
-unfoldable pub isNumber : List ℕ → ℕ → Bool
-isNumber text most =
-    ltb 0 (length text) && leb (length text) 10 && allBelow 10 text && leb (speltFrom 0 text) most
+unfoldable pub is_number : List ℕ → ℕ → Bool
+is_number text most =
+    ltb 0 (length text) && leb (length text) 10 && all_below 10 text && leb (spelt_from 0 text) most
 
 -- the number that the text is; 0 where it is none
-abbrev pub numberIn : List ℕ → ℕ → ℕ
-numberIn text most = cond (isNumber text most) (speltFrom 0 text) 0
+abbrev pub number_in : List ℕ → ℕ → ℕ
+number_in text most = cond (is_number text most) (spelt_from 0 text) 0
 
 -- a digit as it is read
 pub record DigitIs (glyph value : ℕ) : Type 0 where
-  pub is : value ≡ digitOf glyph
+  pub is : value ≡ digit_of glyph
   pub most : value ≤ 16
 
 -- what is read where there is no number
@@ -45,6 +40,6 @@ pub record NoNumber (ok : Bool) (value : ℕ) : Type 0 where
 
 -- a number as it is read
 pub record NumberIs (text : List ℕ) (most : ℕ) (ok : Bool) (value : ℕ) : Type 0 where
-  pub is-one : ok ≡ isNumber text most
-  pub is : value ≡ numberIn text most
+  pub is_one : ok ≡ is_number text most
+  pub is : value ≡ number_in text most
   pub within : value ≤ most

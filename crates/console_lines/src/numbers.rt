@@ -1,16 +1,19 @@
 // Numbers from text: decimal numbers, and bytes as pairs of hex digits.
-ghost use mathlib.Core.Path.{_≡_};
-ghost use Rattle·console_lines·specs.specs.Digits.{DigitIs, NoNumber, NumberIs, isNumber};
-ghost use Rattle·console_lines·specs.specs.Hex.{HexIs, HexPut};
+ghost use Rattle.std.specs.Prelude.{◌≡◌};
+ghost use Rattle.console_lines.specs.Digits.{DigitIs, NoNumber, NumberIs, is_number};
+ghost use Rattle.console_lines.specs.Hex.{HexIs, HexPut};
+
+use crate::parts;
 
 // A number that was read; where the text spells none, 0.
+#[derive(Clone, Copy)]
 pub struct Number {
     pub ok: bool,
     pub value: u64,
 }
 
 fn no_number() -> Number
-    ensures { λ r. ⌜ NoNumber (r .ok) (r .value) ⌝ }
+    ensures { NoNumber result.ok result.value }
 {
     Number {
         ok: false,
@@ -20,7 +23,7 @@ fn no_number() -> Number
 
 // The value of a hex digit, and 16 where it is none. Letters are lower case.
 fn digit(glyph: u8) -> u8
-    ensures { λ r. ⌜ DigitIs glyph r ⌝ }
+    ensures { DigitIs glyph result }
 {
     if glyph < b'0' {
         return 16;
@@ -39,7 +42,7 @@ fn digit(glyph: u8) -> u8
 
 // A decimal number of one to ten digits, at most `most`.
 pub fn decimal(text: &[u8], most: u64) -> Number
-    ensures { λ r. ⌜ NumberIs (now (text .entry)) most (r .ok) (r .value) ⌝ }
+    ensures { NumberIs text.now most result.ok result.value }
 {
     if text.len() == 0 {
         return no_number();
@@ -65,9 +68,9 @@ pub fn decimal(text: &[u8], most: u64) -> Number
 
 // Is the text pairs of hex digits, a byte each, or `-` for no bytes?
 pub fn is_hex(text: &[u8]) -> bool
-    ensures { λ r. ⌜ HexIs (now (text .entry)) r ⌝ }
+    ensures { HexIs text.now result }
 {
-    if check::same(text, b"-") {
+    if parts::same(text, b"-") {
         return true;
     }
     let mut i = 0;
@@ -82,7 +85,7 @@ pub fn is_hex(text: &[u8]) -> bool
 
 // The bytes that such a text spells, as many as `out` has room for; gives how many.
 pub fn hex(text: &[u8], out: &mut [u8]) -> usize
-    ensures { λ r. ⌜ HexPut (now (text .entry)) (now (out .exit)) r ⌝ }
+    ensures { HexPut text.now out.new result }
 {
     let mut i = 0;
     while i < out.len() {
@@ -98,7 +101,7 @@ pub fn hex(text: &[u8], out: &mut [u8]) -> usize
 }
 
 pub fn is_decimal(text: &[u8], most: u64) -> bool
-    ensures { λ r. ⌜ r ≡ isNumber (now (text .entry)) most ⌝ }
+    ensures { result ≡ is_number text.now most }
 {
     let read = decimal(text, most);
     read.ok

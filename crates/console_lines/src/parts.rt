@@ -1,22 +1,27 @@
 // A text in parts that a mark stands between: the words of a line, the entries of a list, the numbers of an entry. A text
 // with no mark is one part, and a part may be empty.
-ghost use mathlib.Core.Path.{_≡_};
-ghost use Prim.Native.Nat.{_≤_};
-ghost use lib.ListN.{length};
-ghost use Rattle·console_lines·specs.specs.Marked.{PartEnds, PartNext, PartStarts, PartsCounted, partAt};
+ghost use Rattle.std.specs.Prelude.{◌≡◌, ◌≤◌, length, true};
+ghost use Rattle.console_lines.specs.Marked.{PartEnds, PartNext, PartStarts, PartsCounted, part_at};
 
 // Where the part that starts at `from` ends: at the next mark, or at the end of the text.
 pub fn end_of(text: &[u8], from: usize, mark: u8) -> usize
-    requires { ⌜ from ≤ length (now text) ⌝ }
-    ensures { λ r. ⌜ PartEnds mark (now (text .entry)) from r ⌝ }
+    requires { from ≤ length text.now }
+    ensures { PartEnds mark text.now from result }
 {
-    bytes::scan::find(text, from, text.len(), mark)
+    let mut at = from;
+    while at < text.len() {
+        if text[at] == mark {
+            return at;
+        }
+        at += 1;
+    }
+    at
 }
 
 // Where the part behind the one that starts at `from` starts; the end of the text where there is none.
 fn next_of(text: &[u8], from: usize, mark: u8) -> usize
-    requires { ⌜ from ≤ length (now text) ⌝ }
-    ensures { λ r. ⌜ PartNext mark (now (text .entry)) from r ⌝ }
+    requires { from ≤ length text.now }
+    ensures { PartNext mark text.now from result }
 {
     let end = end_of(text, from, mark);
     if end < text.len() {
@@ -27,7 +32,7 @@ fn next_of(text: &[u8], from: usize, mark: u8) -> usize
 
 // How many parts the text has.
 pub fn count(text: &[u8], mark: u8) -> usize
-    ensures { λ r. ⌜ PartsCounted mark (now (text .entry)) r ⌝ }
+    ensures { PartsCounted mark text.now result }
 {
     let mut marks = 0;
     let mut i = 0;
@@ -42,7 +47,7 @@ pub fn count(text: &[u8], mark: u8) -> usize
 
 // Where part k starts, from 0; the end of the text where there are fewer.
 fn start_of(text: &[u8], mark: u8, k: usize) -> usize
-    ensures { λ r. ⌜ PartStarts mark (now (text .entry)) k r ⌝ }
+    ensures { PartStarts mark text.now k result }
 {
     let mut at = 0;
     let mut i = 0;
@@ -55,9 +60,17 @@ fn start_of(text: &[u8], mark: u8, k: usize) -> usize
 
 // Part k, from 0; nothing where there are fewer.
 pub fn part(text: &[u8], mark: u8, k: usize) -> &[u8]
-    ensures { λ r. ⌜ now r ≡ partAt mark (now (text .entry)) k ⌝ }
+    ensures { result.now ≡ part_at mark text.now k }
 {
     let from = start_of(text, mark, k);
     let end = end_of(text, from, mark);
     &text[from..end]
+}
+
+// Are two texts the same?
+pub fn same(a: &[u8], b: &[u8]) -> bool
+    ensures alike { result ≡ true → a.now ≡ b.now }
+    ensures known { a.now ≡ b.now → result ≡ true }
+{
+    a == b
 }

@@ -1,39 +1,39 @@
 // The lists of a record, from text: entries with commas between them, their indexes within the record and strictly rising; `-` is
 // no entry. A list is exit counts (c), toggles that are down (t) or places of tokens (p), and these name a board; or dials (d).
-ghost use mathlib.Core.Path.{_≡_};
-ghost use Prim.Native.Nat.{_+_};
-ghost use mathlib.Core.Bool.{false};
-ghost use Rattle·console_lines.specs.Marked.{partAt};
-ghost use Rattle·console_lines.specs.Words.{longAt};
-ghost use Rattle·console_lists·specs.specs.Entries.{indexIn, isIndex, isKeyed, isCount, isToggle, isSeat, isPlace, isReading, isDial, isEntry, nextOf, IndexIs, EntryRead};
-ghost use Rattle·console_lists·specs.specs.Lists.{isList, ListRead};
-use board::Board;
-use board::Place;
-use console_lines::numbers;
-use console_lines::parts;
-use console_lines::words;
+#![tactic(auto)]
+
+ghost use Rattle.std.specs.Prelude.{◌≡◌, ◌+◌, false};
+ghost use Rattle.console_lines.specs.Marked.{part_at};
+ghost use Rattle.console_lines.specs.Words.{long_at};
+ghost use Rattle.console_lists.specs.Entries.{index_in, is_index, is_keyed, is_count, is_toggle, is_seat, is_place, is_reading, is_dial, is_entry, next_of, IndexIs, EntryRead};
+ghost use Rattle.console_lists.specs.Lists.{is_list, ListRead};
+
+use board::{Board, Place};
+use console_lines::{numbers, parts, words};
 
 // The board with what a list names; `ok` says whether the text was such a list.
+#[derive(Clone, Copy)]
 pub struct Listed {
     pub ok: bool,
     pub board: Board,
 }
 
 // The board with an entry, and the least index of the next one; 0 where the entry is refused.
+#[derive(Clone, Copy)]
 struct Stored {
     next: usize,
     board: Board,
 }
 
 fn refused(board: Board) -> Stored
-    ensures { λ r. ⌜ EntryRead false 0 (r .next) (board .entered) (r .board .entered) ⌝ }
+    ensures { EntryRead false 0 result.next board.entered result.board.entered }
 {
     Stored { next: 0, board }
 }
 
 // The index that a text spells, from `least` on; `size` where it spells none below that.
 pub fn index(text: &[u8], least: usize, size: usize) -> usize
-    ensures { λ r. ⌜ IndexIs (isIndex (now (text .entry)) least size) (indexIn (now (text .entry))) size r ⌝ }
+    ensures { IndexIs (is_index text.now least size) (index_in text.now) size result }
 {
     let read = numbers::decimal(text, 65_535);
     let at = read.value as usize;
@@ -45,7 +45,7 @@ pub fn index(text: &[u8], least: usize, size: usize) -> usize
 
 // The index in front of `=`, where one other part is behind it.
 fn key(entry: &[u8], least: usize, size: usize) -> usize
-    ensures { λ r. ⌜ IndexIs (isKeyed (now (entry .entry)) least size) (indexIn (partAt 61 (now (entry .entry)) 0)) size r ⌝ }
+    ensures { IndexIs (is_keyed entry.now least size) (index_in (part_at 61 entry.now 0)) size result }
 {
     if parts::count(entry, b'=') != 2 {
         return size;
@@ -55,7 +55,7 @@ fn key(entry: &[u8], least: usize, size: usize) -> usize
 
 // `i=n`
 fn count(entry: &[u8], least: usize, mut board: Board) -> Stored
-    ensures { λ r. ⌜ EntryRead (isCount (now (entry .entry)) least) (nextOf (now (entry .entry))) (r .next) (board .entered) (r .board .entered) ⌝ }
+    ensures { EntryRead (is_count entry.now least) (next_of entry.now) result.next board.entered result.board.entered }
 {
     let at = key(entry, least, 64);
     let dealt = numbers::decimal(parts::part(entry, b'=', 1), 4_294_967_295);
@@ -72,7 +72,7 @@ fn count(entry: &[u8], least: usize, mut board: Board) -> Stored
 
 // `i`
 fn toggle(entry: &[u8], least: usize, mut board: Board) -> Stored
-    ensures { λ r. ⌜ EntryRead (isToggle (now (entry .entry)) least) (nextOf (now (entry .entry))) (r .next) (board .entered) (r .board .entered) ⌝ }
+    ensures { EntryRead (is_toggle entry.now least) (next_of entry.now) result.next board.entered result.board.entered }
 {
     let at = index(entry, least, 1152);
     if at == 1152 {
@@ -84,13 +84,14 @@ fn toggle(entry: &[u8], least: usize, mut board: Board) -> Stored
 }
 
 // The place that a text spells as `INSIDE/LEVEL/WIRE`; `ok` says whether it does.
+#[derive(Clone, Copy)]
 struct Seated {
     ok: bool,
     place: Place,
 }
 
 fn seat(text: &[u8]) -> Seated
-    ensures { λ r. ⌜ r .ok ≡ isSeat (now (text .entry)) ⌝ }
+    ensures { result.ok ≡ is_seat text.now }
 {
     let inside = numbers::decimal(parts::part(text, b'/', 0), 1);
     let level = numbers::decimal(parts::part(text, b'/', 1), 65_535);
@@ -107,7 +108,7 @@ fn seat(text: &[u8]) -> Seated
 
 // `t=INSIDE/LEVEL/WIRE`
 fn place(entry: &[u8], least: usize, mut board: Board) -> Stored
-    ensures { λ r. ⌜ EntryRead (isPlace (now (entry .entry)) least) (nextOf (now (entry .entry))) (r .next) (board .entered) (r .board .entered) ⌝ }
+    ensures { EntryRead (is_place entry.now least) (next_of entry.now) result.next board.entered result.board.entered }
 {
     let at = key(entry, least, 256);
     let seat = seat(parts::part(entry, b'=', 1));
@@ -125,7 +126,7 @@ fn place(entry: &[u8], least: usize, mut board: Board) -> Stored
 
 // Is the text `NOW/LAST/SUM`?
 fn is_reading(text: &[u8]) -> bool
-    ensures { λ r. ⌜ r ≡ isReading (now (text .entry)) ⌝ }
+    ensures { result ≡ is_reading text.now }
 {
     let now = numbers::is_decimal(parts::part(text, b'/', 0), 65_535);
     let last = numbers::is_decimal(parts::part(text, b'/', 1), 65_535);
@@ -135,7 +136,7 @@ fn is_reading(text: &[u8]) -> bool
 
 // `i=NOW/LAST/SUM`: judged alone, for a board has no dials.
 fn dial(entry: &[u8], least: usize, board: Board) -> Stored
-    ensures { λ r. ⌜ EntryRead (isDial (now (entry .entry)) least) (nextOf (now (entry .entry))) (r .next) (board .entered) (r .board .entered) ⌝ }
+    ensures { EntryRead (is_dial entry.now least) (next_of entry.now) result.next board.entered result.board.entered }
 {
     let at = key(entry, least, 64);
     let good = is_reading(parts::part(entry, b'=', 1));
@@ -150,7 +151,7 @@ fn dial(entry: &[u8], least: usize, board: Board) -> Stored
 }
 
 fn entry(list: u8, text: &[u8], least: usize, board: Board) -> Stored
-    ensures { λ r. ⌜ EntryRead (isEntry list (now (text .entry)) least) (nextOf (now (text .entry))) (r .next) (board .entered) (r .board .entered) ⌝ }
+    ensures { EntryRead (is_entry list text.now least) (next_of text.now) result.next board.entered result.board.entered }
 {
     match list {
         b'c' => count(text, least, board),
@@ -162,10 +163,10 @@ fn entry(list: u8, text: &[u8], least: usize, board: Board) -> Stored
 
 // Reads a list into the board.
 pub fn read(list: u8, text: &[u8], before: Board) -> Listed
-    ensures { λ r. ⌜ ListRead list (now (text .entry)) (r .ok) (before .entered) (r .board .entered) ⌝ }
+    ensures { ListRead list text.now result.ok before.entered result.board.entered }
 {
     let mut board = before;
-    if check::same(text, b"-") {
+    if parts::same(text, b"-") {
         return Listed { ok: true, board };
     }
     let mut least = 0;
@@ -184,7 +185,7 @@ pub fn read(list: u8, text: &[u8], before: Board) -> Listed
 }
 
 pub fn is_list(list: u8, text: &[u8]) -> bool
-    ensures { λ r. ⌜ r ≡ isList list (now (text .entry)) ⌝ }
+    ensures { result ≡ is_list list text.now }
 {
     let read = read(list, text, board::fresh());
     read.ok
@@ -192,7 +193,7 @@ pub fn is_list(list: u8, text: &[u8]) -> bool
 
 // The board that `set W C ENTERED COUNTS TOGGLES PLACES` names, whether it is sound or not.
 pub fn board_in(line: &[u8]) -> Board
-    ensures { λ r. ⌜ r .entered ≡ longAt (now (line .entry)) 3 ⌝ }
+    ensures { result.entered ≡ long_at line.now 3 }
 {
     let fresh = board::fresh();
     let counted = read(b'c', words::word(line, 4), fresh);

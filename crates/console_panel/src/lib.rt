@@ -1,14 +1,16 @@
 // The console's call on a design. A line is the call that it is handed to, and its answer is put into the front of a lent text.
-ghost use Rattle·text.specs.Text.{Puts};
-ghost use Rattle·console_panel·specs.specs.Panel.{panelLine, PanelAnswered};
+#![tactic(auto)]
+
+ghost use Rattle.text.specs.Text.{Puts};
+ghost use Rattle.console_panel.specs.Panel.{panel_line, PanelAnswered};
+
 use console_bytes::buffers;
-use console_lines::numbers;
-use console_lines::words;
+use console_lines::{numbers, words};
 use panels::Answer;
 
 // `R OFFSET PRESENT W D N HEX`
 fn put_answer(text: &mut [u8], answer: Answer, lent: &[u8]) -> usize
-    ensures { λ r. ⌜ Puts (panelLine answer (now (lent .entry))) 0 (now (text .entry)) r (now (text .exit)) ⌝ }
+    ensures { Puts (panel_line answer lent.now) 0 text.old result text.new }
 {
     let values = [
         answer.offset,
@@ -22,7 +24,7 @@ fn put_answer(text: &mut [u8], answer: Answer, lent: &[u8]) -> usize
 
 // `panel ROOM HEX`: a design, and the whole lent feed sheet after the call.
 pub fn panel(line: &[u8], text: &mut [u8]) -> usize
-    ensures { λ r. ⌜ PanelAnswered (now (line .entry)) (now (text .entry)) r (now (text .exit)) ⌝ }
+    ensures { PanelAnswered line.now text.old result text.new }
 {
     let room = words::room(line, 1);
     let mut bytes = buffers::spelt();

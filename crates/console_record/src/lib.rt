@@ -1,19 +1,21 @@
 // A record as text, put into a lent text: `W C ENTERED COUNTS TOGGLES PLACES` of a run record, and with the depth in place of the
 // construction that of a run over a feed sheet; that of a small cabinet goes on with its dials. Of its lists, only what differs from an
 // opening.
-ghost use mathlib.Core.Path.{_≡_};
-ghost use Rattle·text.specs.Text.{Puts};
-ghost use Rattle·text.specs.Lists.{entryIf};
-ghost use Rattle·board.specs.Sound.{insideOne};
-ghost use Rattle·console_record·specs.specs.Record.{hasDealt, countEntry, isDown, toggleEntry, isPlaced, placeEntry, countList, toggleList, placeList, boardText, recordText, recordLine};
-use board::Board;
-use board::Place;
+#![tactic(auto)]
+
+ghost use Rattle.std.specs.Prelude.{◌≡◌};
+ghost use Rattle.text.specs.Text.{Puts};
+ghost use Rattle.text.specs.Lists.{entry_if};
+ghost use Rattle.board.specs.Sound.{inside_one};
+ghost use Rattle.console_record.specs.Record.{has_dealt, count_entry, is_down, toggle_entry, is_placed, place_entry, count_list, toggle_list, place_list, board_text, record_text, record_line};
+
+use board::{Board, Place};
 
 // ---- an entry of a list, where it differs from an opening; `some` says whether one stands in front
 
 // `i=n`
 fn put_count(out: &mut [u8], at: usize, some: bool, exit: usize, dealt: u32) -> usize
-    ensures { λ r. ⌜ Puts (entryIf (hasDealt dealt) some (countEntry exit dealt)) at (now (out .entry)) r (now (out .exit)) ⌝ }
+    ensures { Puts (entry_if (has_dealt dealt) some (count_entry exit dealt)) at out.old result out.new }
 {
     if dealt == 0 {
         return at;
@@ -25,7 +27,7 @@ fn put_count(out: &mut [u8], at: usize, some: bool, exit: usize, dealt: u32) -> 
 
 // `i`, a toggle that is down
 fn put_toggle(out: &mut [u8], at: usize, some: bool, cell: usize, down: bool) -> usize
-    ensures { λ r. ⌜ Puts (entryIf (isDown down) some (toggleEntry cell down)) at (now (out .entry)) r (now (out .exit)) ⌝ }
+    ensures { Puts (entry_if (is_down down) some (toggle_entry cell down)) at out.old result out.new }
 {
     if down {
         let first = text::put_comma(out, at, some);
@@ -35,20 +37,20 @@ fn put_toggle(out: &mut [u8], at: usize, some: bool, cell: usize, down: bool) ->
 }
 
 fn is_placed(place: Place) -> bool
-    ensures { λ r. ⌜ r ≡ isPlaced place ⌝ }
+    ensures { result ≡ is_placed place }
 {
     place.inside | (place.level != 0) | (place.wire != 0)
 }
 
 fn one_inside(place: Place) -> usize
-    ensures { λ r. ⌜ r ≡ insideOne place ⌝ }
+    ensures { result ≡ inside_one place }
 {
     if place.inside { 1 } else { 0 }
 }
 
 // `t=INSIDE/LEVEL/WIRE`
 fn put_seat(out: &mut [u8], at: usize, token: usize, place: Place) -> usize
-    ensures { λ r. ⌜ Puts (placeEntry token place) at (now (out .entry)) r (now (out .exit)) ⌝ }
+    ensures { Puts (place_entry token place) at out.old result out.new }
 {
     let inside = one_inside(place);
     let first = text::put_number(out, at, token, b'=');
@@ -58,7 +60,7 @@ fn put_seat(out: &mut [u8], at: usize, token: usize, place: Place) -> usize
 }
 
 fn put_place(out: &mut [u8], at: usize, some: bool, token: usize, place: Place) -> usize
-    ensures { λ r. ⌜ Puts (entryIf (isPlaced place) some (placeEntry token place)) at (now (out .entry)) r (now (out .exit)) ⌝ }
+    ensures { Puts (entry_if (is_placed place) some (place_entry token place)) at out.old result out.new }
 {
     if is_placed(place) {
         let first = text::put_comma(out, at, some);
@@ -70,7 +72,7 @@ fn put_place(out: &mut [u8], at: usize, some: bool, token: usize, place: Place) 
 // ---- the lists
 
 fn put_counts(out: &mut [u8], at: usize, board: Board) -> usize
-    ensures { λ r. ⌜ Puts (countList board) at (now (out .entry)) r (now (out .exit)) ⌝ }
+    ensures { Puts (count_list board) at out.old result out.new }
 {
     let mut next = at;
     let mut some = false;
@@ -85,7 +87,7 @@ fn put_counts(out: &mut [u8], at: usize, board: Board) -> usize
 }
 
 fn put_toggles(out: &mut [u8], at: usize, board: Board) -> usize
-    ensures { λ r. ⌜ Puts (toggleList board) at (now (out .entry)) r (now (out .exit)) ⌝ }
+    ensures { Puts (toggle_list board) at out.old result out.new }
 {
     let mut next = at;
     let mut some = false;
@@ -100,7 +102,7 @@ fn put_toggles(out: &mut [u8], at: usize, board: Board) -> usize
 }
 
 fn put_places(out: &mut [u8], at: usize, board: Board) -> usize
-    ensures { λ r. ⌜ Puts (placeList board) at (now (out .entry)) r (now (out .exit)) ⌝ }
+    ensures { Puts (place_list board) at out.old result out.new }
 {
     let mut next = at;
     let mut some = false;
@@ -116,7 +118,7 @@ fn put_places(out: &mut [u8], at: usize, board: Board) -> usize
 
 // `COUNTS TOGGLES PLACES`
 fn put_board(out: &mut [u8], at: usize, board: Board) -> usize
-    ensures { λ r. ⌜ Puts (boardText board) at (now (out .entry)) r (now (out .exit)) ⌝ }
+    ensures { Puts (board_text board) at out.old result out.new }
 {
     let first = put_counts(out, at, board);
     let second = text::put_byte(out, first, b' ');
@@ -127,7 +129,7 @@ fn put_board(out: &mut [u8], at: usize, board: Board) -> usize
 
 // A record of this width and construction or depth, at the front.
 pub fn put_parts(out: &mut [u8], width: u16, kind: u16, board: Board) -> usize
-    ensures { λ r. ⌜ Puts (recordText width kind board) 0 (now (out .entry)) r (now (out .exit)) ⌝ }
+    ensures { Puts (record_text width kind board) 0 out.old result out.new }
 {
     let values = [kind as usize, board.entered as usize];
     let first = text::put_decimal(out, 0, width as usize);
@@ -138,7 +140,7 @@ pub fn put_parts(out: &mut [u8], width: u16, kind: u16, board: Board) -> usize
 
 // Its line.
 pub fn put_record(out: &mut [u8], width: u16, kind: u16, board: Board) -> usize
-    ensures { λ r. ⌜ Puts (recordLine width kind board) 0 (now (out .entry)) r (now (out .exit)) ⌝ }
+    ensures { Puts (record_line width kind board) 0 out.old result out.new }
 {
     let end = put_parts(out, width, kind, board);
     text::put_byte(out, end, b'\n')

@@ -1,18 +1,20 @@
 // The console's calls on the run that it holds, and the answers that calls on a run over a feed sheet and on a small cabinet have too.
 // A line is the call that it is handed to; its answer is put into the front of a lent text. A call that changes the run gives the run
 // after it.
-ghost use mathlib.Core.Path.{_≡_};
-ghost use mathlib.Core.Bool.{cond};
-ghost use lib.ListN.{replicate};
-ghost use Rattle·text.specs.Text.{letters, Puts};
-ghost use Rattle·run.specs.Run.{sound};
-ghost use Rattle·console_record.specs.Record.{recordLine};
-ghost use Rattle·console_run·specs.specs.Calls.{Answers, afterOpen, openLine, afterEnter, enterLine, afterTurn, moveLine, movedLine, turnLine, SetIs, GapsAnswered};
+#![tactic(auto)]
+
+ghost use Rattle.std.specs.Prelude.{◌≡◌, cond, replicate};
+ghost use Rattle.text.specs.Text.{letters, Puts};
+ghost use Rattle.run.specs.Run.{sound};
+ghost use Rattle.console_record.specs.Record.{record_line};
+ghost use Rattle.console_run.specs.Calls.{Answers, after_open, open_line, after_enter, enter_line, after_turn, move_line, moved_line, turn_line, SetIs, GapsAnswered};
+
 use console_lines::words;
 use moves::Turn;
 use run::Run;
 
 // The run after a call, and where its answer ends.
+#[derive(Clone, Copy)]
 pub struct Answered {
     pub run: Run,
     pub end: usize,
@@ -20,7 +22,7 @@ pub struct Answered {
 
 // `open W C`
 pub fn open(line: &[u8], text: &mut [u8]) -> Answered
-    ensures { λ r. ⌜ Answers (afterOpen (now (line .entry))) (r .run) (openLine (now (line .entry))) (now (text .entry)) (r .end) (now (text .exit)) ⌝ }
+    ensures { Answers (after_open line.now) result.run (open_line line.now) text.old result.end text.new }
 {
     let opened = Run::open(words::short(line, 1), words::short(line, 2));
     let end = console_answers::put_refusal(text, opened.refusal);
@@ -30,7 +32,7 @@ pub fn open(line: &[u8], text: &mut [u8]) -> Answered
 
 // Whether a record is sound.
 pub fn put_sound(text: &mut [u8], sound: bool) -> usize
-    ensures { λ r. ⌜ Puts (cond sound (letters "1\n") (letters "0\n")) 0 (now (text .entry)) r (now (text .exit)) ⌝ }
+    ensures { Puts (cond sound (letters "1\n") (letters "0\n")) 0 text.old result text.new }
 {
     if sound {
         return text::put_text(text, 0, b"1\n");
@@ -40,7 +42,7 @@ pub fn put_sound(text: &mut [u8], sound: bool) -> usize
 
 // `set W C ENTERED COUNTS TOGGLES PLACES`: any record, sound or not.
 pub fn set(line: &[u8], text: &mut [u8]) -> Answered
-    ensures { λ r. ⌜ SetIs (now (line .entry)) (r .run .width) (r .run .construction) (r .run .board .entered) (sound (r .run)) (now (text .entry)) (r .end) (now (text .exit)) ⌝ }
+    ensures { SetIs line.now result.run.width result.run.construction result.run.board.entered (sound result.run) text.old result.end text.new }
 {
     let board = console_lists::board_in(line);
     let run = Run {
@@ -54,7 +56,7 @@ pub fn set(line: &[u8], text: &mut [u8]) -> Answered
 
 // `enter T V`
 pub fn enter(line: &[u8], text: &mut [u8], run: Run) -> Answered
-    ensures { λ r. ⌜ Answers (afterEnter (now (line .entry)) run) (r .run) (enterLine (now (line .entry)) run) (now (text .entry)) (r .end) (now (text .exit)) ⌝ }
+    ensures { Answers (after_enter line.now run) result.run (enter_line line.now run) text.old result.end text.new }
 {
     let entered = run.enter(words::short(line, 1), words::short(line, 2));
     let end = console_answers::put_refusal(text, entered.refusal);
@@ -64,7 +66,7 @@ pub fn enter(line: &[u8], text: &mut [u8], run: Run) -> Answered
 
 // `0 passed LEVEL WIRE LAYER CELL OUTLET`, or `0 dealt EXIT NUMBER`
 fn put_move(text: &mut [u8], what: &[u8], values: &[usize]) -> usize
-    ensures { λ r. ⌜ Puts (moveLine (now (what .entry)) (now (values .entry))) 0 (now (text .entry)) r (now (text .exit)) ⌝ }
+    ensures { Puts (move_line what.now values.now) 0 text.old result text.new }
 {
     let at = text::put_text(text, 0, what);
     let end = text::put_row(text, at, values);
@@ -73,7 +75,7 @@ fn put_move(text: &mut [u8], what: &[u8], values: &[usize]) -> usize
 
 // What a turn answers.
 pub fn put_turn(text: &mut [u8], answer: Turn) -> usize
-    ensures { λ r. ⌜ Puts (movedLine answer) 0 (now (text .entry)) r (now (text .exit)) ⌝ }
+    ensures { Puts (moved_line answer) 0 text.old result text.new }
 {
     match answer {
         Turn::Passed {
@@ -102,7 +104,7 @@ pub fn put_turn(text: &mut [u8], answer: Turn) -> usize
 
 // `turn T`
 pub fn turn(line: &[u8], text: &mut [u8], run: Run) -> Answered
-    ensures { λ r. ⌜ Answers (afterTurn (now (line .entry)) run) (r .run) (turnLine (now (line .entry)) run) (now (text .entry)) (r .end) (now (text .exit)) ⌝ }
+    ensures { Answers (after_turn line.now run) result.run (turn_line line.now run) text.old result.end text.new }
 {
     let turned = run.turn(words::short(line, 1));
     let answer = turned.answer;
@@ -113,14 +115,14 @@ pub fn turn(line: &[u8], text: &mut [u8], run: Run) -> Answered
 
 // Numbers to fill, as they are before the call.
 pub fn buffer() -> [u32; 65_536]
-    ensures { λ r. ⌜ r ≡ replicate 65536 4294967295 ⌝ }
+    ensures { result ≡ replicate 65536 4294967295 }
 {
     [4_294_967_295u32; 65_536]
 }
 
 // `gaps ROOM`: the whole lent slice after the call.
 pub fn gaps(line: &[u8], text: &mut [u8], run: Run) -> usize
-    ensures { λ r. ⌜ GapsAnswered (now (line .entry)) (sound run) (run .width) (run .board) (now (text .entry)) r (now (text .exit)) ⌝ }
+    ensures { GapsAnswered line.now (sound run) run.width run.board text.old result text.new }
 {
     let room = words::room(line, 1);
     let mut buffer = buffer();
@@ -132,7 +134,7 @@ pub fn gaps(line: &[u8], text: &mut [u8], run: Run) -> usize
 
 // `record`
 pub fn record(text: &mut [u8], run: Run) -> usize
-    ensures { λ r. ⌜ Puts (recordLine (run .width) (run .construction) (run .board)) 0 (now (text .entry)) r (now (text .exit)) ⌝ }
+    ensures { Puts (record_line run.width run.construction run.board) 0 text.old result text.new }
 {
     let board = run.board;
     console_record::put_record(text, run.width, run.construction, board)

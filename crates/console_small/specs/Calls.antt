@@ -1,59 +1,57 @@
 -- The small cabinet after a line that is a call, and the line that answers it. Definitions only. Assumes nothing.
-use Prim.Native.Nat.{ℕ}
-use mathlib.Core.Path.{_≡_}
-use mathlib.Core.List.{List, [], _∷_}
-use Rattle·text.specs.Text.{letters}
-use Rattle·run.specs.Run.{sound}
-use Rattle·dials.specs.declared.Top.{Top}
-use Rattle·dials.specs.declared.Top.the-variants.{Number, Nothing, Refused}
-use Rattle·dials.specs.Highest.{highestOf}
-use Rattle·small.specs.declared.Cabinet.{Cabinet}
-use Rattle·small.specs.Small.{openSmall, enterSmall, turnSmall, pollSmall}
-use Rattle·console_lines.specs.Words.{wordAt, shortAt}
-use Rattle·console_answers.specs.Answers.{refusalLine, valuesLine}
-use Rattle·console_run.specs.Calls.{movedLine, SetIs}
-use Rattle·console_small·specs.specs.Named.{dialsIn, sumsIn}
+use Rattle.std.specs.Prelude.{ℕ, ◌≡◌, List, [], ◌∷◌}
+use Rattle.text.specs.Text.{letters}
+use Rattle.run.specs.Run.{sound}
+use Rattle.dials.specs.declared.Top.{Top}
+use Rattle.dials.specs.declared.Top.TheVariants.{Number, Nothing, Refused}
+use Rattle.dials.specs.Highest.{highest_of}
+use Rattle.small.specs.declared.Cabinet.{Cabinet}
+use Rattle.small.specs.Small.{open_small, enter_small, turn_small, poll_small}
+use Rattle.console_lines.specs.Words.{word_at, short_at}
+use Rattle.console_answers.specs.Answers.{refusal_line, values_line}
+use Rattle.console_run.specs.Calls.{moved_line, SetIs}
+use Rattle.console_small.specs.Named.{dials_in, sums_in}
 
 -- `dopen W C`
-abbrev pub afterOpen : List ℕ → Cabinet
-afterOpen line = openSmall (shortAt line 1) (shortAt line 2) .cabinet
+abbrev pub after_open : List ℕ → Cabinet
+after_open line = (open_small (short_at line 1) (short_at line 2)).cabinet
 
-abbrev pub openLine : List ℕ → List ℕ
-openLine line = refusalLine (openSmall (shortAt line 1) (shortAt line 2) .refusal)
+abbrev pub open_line : List ℕ → List ℕ
+open_line line = refusal_line (open_small (short_at line 1) (short_at line 2)).refusal
 
 -- `denter T V`
-abbrev pub afterEnter : List ℕ → Cabinet → Cabinet
-afterEnter line x = enterSmall x (shortAt line 1) (shortAt line 2) .cabinet
+abbrev pub after_enter : List ℕ → Cabinet → Cabinet
+after_enter line x = (enter_small x (short_at line 1) (short_at line 2)).cabinet
 
-abbrev pub enterLine : List ℕ → Cabinet → List ℕ
-enterLine line x = refusalLine (enterSmall x (shortAt line 1) (shortAt line 2) .refusal)
+abbrev pub enter_line : List ℕ → Cabinet → List ℕ
+enter_line line x = refusal_line (enter_small x (short_at line 1) (short_at line 2)).refusal
 
 -- `dturn T`
-abbrev pub afterTurn : List ℕ → Cabinet → Cabinet
-afterTurn line x = turnSmall x (shortAt line 1) .cabinet
+abbrev pub after_turn : List ℕ → Cabinet → Cabinet
+after_turn line x = (turn_small x (short_at line 1)).cabinet
 
-abbrev pub turnLine : List ℕ → Cabinet → List ℕ
-turnLine line x = movedLine (turnSmall x (shortAt line 1) .answer)
+abbrev pub turn_line : List ℕ → Cabinet → List ℕ
+turn_line line x = moved_line (turn_small x (short_at line 1)).answer
 
 -- `poll E`: `R YIELD`
-abbrev pub afterPoll : List ℕ → Cabinet → Cabinet
-afterPoll line x = pollSmall x (shortAt line 1) .cabinet
+abbrev pub after_poll : List ℕ → Cabinet → Cabinet
+after_poll line x = (poll_small x (short_at line 1)).cabinet
 
-abbrev pub pollLine : List ℕ → Cabinet → List ℕ
-pollLine line x =
-    let p = pollSmall x (shortAt line 1) in
-    valuesLine (p .refusal) (p .yielded ∷ [])
+abbrev pub poll_line : List ℕ → Cabinet → List ℕ
+poll_line line x =
+    let p = poll_small x (short_at line 1) in
+    values_line p.refusal (p.yielded ∷ [])
 
 -- `dset W C ENTERED COUNTS TOGGLES PLACES DIALS`: the run inside is that of `set`, and the dials are those of the list
 pub record SmallSetIs (line : List ℕ) (x : Cabinet) (before : List ℕ) (end : ℕ) (after : List ℕ) : Type 0 where
-  pub run-set : SetIs line (x .run .width) (x .run .construction) (x .run .board .entered) (sound (x .run)) before end after
-  pub dials-are : x .dials ≡ dialsIn (wordAt line 7)
+  pub run_set : SetIs line x.run.width x.run.construction x.run.board.entered (sound x.run) before end after
+  pub dials_are : x.dials ≡ dials_in (word_at line 7)
 
 -- `highest W SUMS`: `0 NUMBER`, `0 none` or the refusal number
-unfoldable pub topLine : Top → List ℕ
-topLine (Number n) = valuesLine 0 (n ∷ [])
-topLine Nothing = letters "0 none\n"
-topLine (Refused n) = refusalLine n
+unfoldable pub top_line : Top → List ℕ
+top_line (Number n) = values_line 0 (n ∷ [])
+top_line Nothing = letters "0 none\n"
+top_line (Refused n) = refusal_line n
 
-abbrev pub highestLine : List ℕ → List ℕ
-highestLine line = topLine (highestOf (shortAt line 1) (sumsIn (wordAt line 2)))
+abbrev pub highest_line : List ℕ → List ℕ
+highest_line line = top_line (highest_of (short_at line 1) (sums_in (word_at line 2)))

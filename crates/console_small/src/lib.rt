@@ -1,9 +1,11 @@
 // The console's calls on the small cabinet that it holds, and the highest number dealt. A line is the call that it is handed to; its
 // answer is put into the front of a lent text. A call that changes the cabinet gives the cabinet after it.
-ghost use Rattle·text.specs.Text.{Puts};
-ghost use Rattle·console_run.specs.Calls.{Answers};
-ghost use Rattle·console_small·specs.specs.Record.{smallLine};
-ghost use Rattle·console_small·specs.specs.Calls.{SmallSetIs, afterOpen, openLine, afterEnter, enterLine, afterTurn, turnLine, afterPoll, pollLine, topLine, highestLine};
+#![tactic(auto)]
+
+ghost use Rattle.text.specs.Text.{Puts};
+ghost use Rattle.console_run.specs.Calls.{Answers};
+ghost use Rattle.console_small.specs.Record.{small_line};
+ghost use Rattle.console_small.specs.Calls.{SmallSetIs, after_open, open_line, after_enter, enter_line, after_turn, turn_line, after_poll, poll_line, top_line, highest_line};
 
 mod lists;
 mod readings;
@@ -13,6 +15,7 @@ use dials::Top;
 use small::Cabinet;
 
 // The cabinet after a call, and where its answer ends.
+#[derive(Clone, Copy)]
 pub struct Answered {
     pub cabinet: Cabinet,
     pub end: usize,
@@ -20,7 +23,7 @@ pub struct Answered {
 
 // `dopen W C`
 pub fn open(line: &[u8], text: &mut [u8]) -> Answered
-    ensures { λ r. ⌜ Answers (afterOpen (now (line .entry))) (r .cabinet) (openLine (now (line .entry))) (now (text .entry)) (r .end) (now (text .exit)) ⌝ }
+    ensures { Answers (after_open line.now) result.cabinet (open_line line.now) text.old result.end text.new }
 {
     let opened = Cabinet::open(words::short(line, 1), words::short(line, 2));
     let end = console_answers::put_refusal(text, opened.refusal);
@@ -30,7 +33,7 @@ pub fn open(line: &[u8], text: &mut [u8]) -> Answered
 
 // `dset W C ENTERED COUNTS TOGGLES PLACES DIALS`: any record, sound or not.
 pub fn set(line: &[u8], text: &mut [u8]) -> Answered
-    ensures { λ r. ⌜ SmallSetIs (now (line .entry)) (r .cabinet) (now (text .entry)) (r .end) (now (text .exit)) ⌝ }
+    ensures { SmallSetIs line.now result.cabinet text.old result.end text.new }
 {
     let set = console_run::set(line, text);
     let dials = lists::dials_in(words::word(line, 7));
@@ -42,7 +45,7 @@ pub fn set(line: &[u8], text: &mut [u8]) -> Answered
 
 // `denter T V`
 pub fn enter(line: &[u8], text: &mut [u8], cabinet: Cabinet) -> Answered
-    ensures { λ r. ⌜ Answers (afterEnter (now (line .entry)) cabinet) (r .cabinet) (enterLine (now (line .entry)) cabinet) (now (text .entry)) (r .end) (now (text .exit)) ⌝ }
+    ensures { Answers (after_enter line.now cabinet) result.cabinet (enter_line line.now cabinet) text.old result.end text.new }
 {
     let entered = cabinet.enter(words::short(line, 1), words::short(line, 2));
     let end = console_answers::put_refusal(text, entered.refusal);
@@ -52,7 +55,7 @@ pub fn enter(line: &[u8], text: &mut [u8], cabinet: Cabinet) -> Answered
 
 // `dturn T`
 pub fn turn(line: &[u8], text: &mut [u8], cabinet: Cabinet) -> Answered
-    ensures { λ r. ⌜ Answers (afterTurn (now (line .entry)) cabinet) (r .cabinet) (turnLine (now (line .entry)) cabinet) (now (text .entry)) (r .end) (now (text .exit)) ⌝ }
+    ensures { Answers (after_turn line.now cabinet) result.cabinet (turn_line line.now cabinet) text.old result.end text.new }
 {
     let turned = cabinet.turn(words::short(line, 1));
     let answer = turned.answer;
@@ -63,7 +66,7 @@ pub fn turn(line: &[u8], text: &mut [u8], cabinet: Cabinet) -> Answered
 
 // `poll E`
 pub fn poll(line: &[u8], text: &mut [u8], cabinet: Cabinet) -> Answered
-    ensures { λ r. ⌜ Answers (afterPoll (now (line .entry)) cabinet) (r .cabinet) (pollLine (now (line .entry)) cabinet) (now (text .entry)) (r .end) (now (text .exit)) ⌝ }
+    ensures { Answers (after_poll line.now cabinet) result.cabinet (poll_line line.now cabinet) text.old result.end text.new }
 {
     let polled = cabinet.poll(words::short(line, 1));
     let values = [polled.yielded as usize];
@@ -74,7 +77,7 @@ pub fn poll(line: &[u8], text: &mut [u8], cabinet: Cabinet) -> Answered
 
 // `drecord`
 pub fn record(text: &mut [u8], cabinet: Cabinet) -> usize
-    ensures { λ r. ⌜ Puts (smallLine cabinet) 0 (now (text .entry)) r (now (text .exit)) ⌝ }
+    ensures { Puts (small_line cabinet) 0 text.old result text.new }
 {
     let run = cabinet.run;
     let dials = cabinet.dials;
@@ -87,7 +90,7 @@ pub fn record(text: &mut [u8], cabinet: Cabinet) -> usize
 
 // `0 NUMBER`, `0 none` or the refusal number.
 fn put_top(text: &mut [u8], top: Top) -> usize
-    ensures { λ r. ⌜ Puts (topLine top) 0 (now (text .entry)) r (now (text .exit)) ⌝ }
+    ensures { Puts (top_line top) 0 text.old result text.new }
 {
     match top {
         Top::Number(number) => {
@@ -101,7 +104,7 @@ fn put_top(text: &mut [u8], top: Top) -> usize
 
 // `highest W SUMS`: the cabinet that is held has no part in it.
 pub fn highest(line: &[u8], text: &mut [u8]) -> usize
-    ensures { λ r. ⌜ Puts (highestLine (now (line .entry))) 0 (now (text .entry)) r (now (text .exit)) ⌝ }
+    ensures { Puts (highest_line line.now) 0 text.old result text.new }
 {
     let sums = lists::sums_in(words::word(line, 2));
     let top = dials::highest(words::short(line, 1), sums);

@@ -1,19 +1,20 @@
 // The dials of a small cabinet as text, `i=NOW/LAST/SUM,..`: those that differ from an opening's.
-ghost use mathlib.Core.Path.{_≡_};
-ghost use Rattle·text.specs.Text.{Puts};
-ghost use Rattle·text.specs.Lists.{entryIf};
-ghost use Rattle·console_small·specs.specs.Record.{hasRead, dialEntry, dialList};
+ghost use Rattle.std.specs.Prelude.{◌≡◌};
+ghost use Rattle.text.specs.Text.{Puts};
+ghost use Rattle.text.specs.Lists.{entry_if};
+ghost use Rattle.console_small.specs.Record.{has_read, dial_entry, dial_list};
+
 use dials::Dial;
 
 fn has_read(dial: Dial) -> bool
-    ensures { λ r. ⌜ r ≡ hasRead dial ⌝ }
+    ensures { result ≡ has_read dial }
 {
     (dial.now != 0) | (dial.last != 0) | (dial.sum != 0)
 }
 
 // `i=NOW/LAST/SUM`
 fn put_reading(out: &mut [u8], at: usize, exit: usize, dial: Dial) -> usize
-    ensures { λ r. ⌜ Puts (dialEntry exit dial) at (now (out .entry)) r (now (out .exit)) ⌝ }
+    ensures { Puts (dial_entry exit dial) at out.old result out.new }
 {
     let first = text::put_number(out, at, exit, b'=');
     let second = text::put_number(out, first, dial.now as usize, b'/');
@@ -23,7 +24,7 @@ fn put_reading(out: &mut [u8], at: usize, exit: usize, dial: Dial) -> usize
 
 // The same, where it differs from an opening's; `some` says whether an entry stands in front.
 fn put_dial(out: &mut [u8], at: usize, some: bool, exit: usize, dial: Dial) -> usize
-    ensures { λ r. ⌜ Puts (entryIf (hasRead dial) some (dialEntry exit dial)) at (now (out .entry)) r (now (out .exit)) ⌝ }
+    ensures { Puts (entry_if (has_read dial) some (dial_entry exit dial)) at out.old result out.new }
 {
     if has_read(dial) {
         let first = text::put_comma(out, at, some);
@@ -33,7 +34,7 @@ fn put_dial(out: &mut [u8], at: usize, some: bool, exit: usize, dial: Dial) -> u
 }
 
 pub fn put_dials(out: &mut [u8], at: usize, dials: [Dial; 64]) -> usize
-    ensures { λ r. ⌜ Puts (dialList dials) at (now (out .entry)) r (now (out .exit)) ⌝ }
+    ensures { Puts (dial_list dials) at out.old result out.new }
 {
     let mut next = at;
     let mut some = false;

@@ -1,1 +1,2 @@
 // What a cut file comes to: definitions, statements and proofs, no code.
+#![tactic(auto)]

@@ -1,40 +1,38 @@
 -- Every panel that is read is fair: width 1 to 64, depth at most 36, an even width where there are cells, and each row a
 -- permutation. And the feed sheet of a named network is its sheet and a row in order. Assumes nothing.
-use mathlib.Core.Path.{_≡_, refl, sym, ap, _∙_}
-use mathlib.Core.Bool.{Bool, true, false, not, cond, _&&_}
-use mathlib.Core.List.{List, [], _∷_, _++_}
-use mathlib.Core.Logic.{⊎-elim}
-use Prim.Native.Nat.{ℕ, zero, suc, _+_, _%_, _<_, _≤_}
+use mathlib.Core.Path.{◌≡◌, refl}
+use mathlib.Core.Bool.{Bool, true, false, not, cond}
+use mathlib.Core.List.{List, [], ◌∷◌, ◌++◌}
+use Prim.Native.Nat.{ℕ, zero, suc, ◌+◌, ◌<◌}
 use native.Mathlib.Omega.{arith}
 use native.Mathlib.Numerals.{add-one}
-use lib.Dec.{ltb, leb, eqb}
+use lib.Dec.{ltb, eqb}
 use lib.ListN.{length, drop}
-use borrow.Author.Tests.{lt-ltb, le-ltb, ltb-true, leb-true, eqb-true, not-false}
-use Rattle·order.specs.Order.{firstOf}
-use Rattle·order.proofs.Order.{cleared}
-use Rattle·network.specs.Widths.{openNo, depthOf}
-use Rattle·network.specs.Rows.{tabulate, rows, placeOf, sheetOf}
-use Rattle·network.proofs.Arrays.{tabulate-ext}
-use Rattle·network.proofs.Widths.{allowed, width-some, width-small, depthOf-small, layered}
-use Rattle·network.proofs.Rows.{placeOf-once}
-use Rattle·network.proofs.Once.{Once}
-use Rattle·records.specs.Fields.{field}
-use Rattle·records.specs.Reading.{lengthIn, kindIn}
-use Rattle·designs·specs.specs.declared.Fault.{Fault}
-use Rattle·designs·specs.specs.Panels.{Panel, cell, named, cross, feedSheet}
-use Rattle·designs·specs.specs.Members.{Joint, series, beside, joined, allEqual}
-use Rattle·feed_sheet.specs.Limits.{inLimits, permutation}
-use Rattle·designs·specs.specs.Records.{behind, headNo}
-use Rattle·designs·specs.specs.Leaves.{Read, refused, made, fault, judged, crossNo, leafOf}
-use Rattle·designs·specs.specs.Designs.{Members, stopped, all, first, membersIn, sizeNo, joinedAt, bodyOf, recordAt, designOf}
-use Rattle·designs·specs.specs.PanelsRead.{PanelsRead}
-use Rattle·feed_sheet.proofs.Permutations.{permutation-once, once-permutation}
-use Rattle·feed_sheet.proofs.Sheet.{Within, within-limits}
-use Rattle·designs·proofs.proofs.Rows.{Rowed, once-in-order}
-use Rattle·designs·proofs.proofs.Joints.{Lawful, lawful-series, lawful-beside, Every, none, more, rowed-joined}
+use borrow.Author.Tests.{lt-ltb, le-ltb, ltb-true, eqb-true, not-false}
+use Rattle.order.proofs.Order.{cleared}
+use Rattle.network.specs.Widths.{open_no, depth_of}
+use Rattle.network.specs.Rows.{tabulate, rows, place_of, sheet_of}
+use Rattle.network.proofs.Arrays.{tabulate_ext}
+use Rattle.network.proofs.Widths.{allowed, width_some, width_small, depth_of_small, layered}
+use Rattle.network.proofs.Rows.{place_of_once}
+use Rattle.network.proofs.Once.{Once}
+use Rattle.records.specs.Fields.{field}
+use Rattle.records.specs.Reading.{kind_in}
+use Rattle.designs.specs.declared.Fault.{Fault}
+use Rattle.designs.specs.Panels.{Panel, cell, named, cross, feed_sheet}
+use Rattle.designs.specs.Members.{Joint, series, beside, joined, all_equal}
+use Rattle.feed_sheet.specs.Limits.{in_limits, permutation}
+use Rattle.designs.specs.Records.{behind, head_no}
+use Rattle.designs.specs.Leaves.{Read, refused, made, judged, cross_no, leaf_of}
+use Rattle.designs.specs.Designs.{Members, stopped, all, first, members_in, size_no, joined_at, body_of, record_at, design_of}
+use Rattle.designs.specs.PanelsRead.{PanelsRead}
+use Rattle.feed_sheet.proofs.Permutations.{permutation_once, once_permutation}
+use Rattle.feed_sheet.proofs.Sheet.{Within, within_limits}
+use Rattle.designs.proofs.Rows.{Rowed, once_in_order}
+use Rattle.designs.proofs.Joints.{Lawful, lawful_series, lawful_beside, Every, none, more, rowed_joined}
 
 pub record Fair (p : Panel) : Type 0 where
-  pub within : Within (p .width) (p .depth)
+  pub within : Within p.width p.depth
   pub rowed : Rowed p
 
 -- ---- what each refusal rules out
@@ -42,23 +40,23 @@ pub record CrossFair (places : List ℕ) : Type 0 where
   pub whole : permutation places ≡ true
   pub within : Within (length places) 0
 
-pub cross-fair : (places : List ℕ) → crossNo places ≡ 0 → CrossFair places
-unfolding crossNo
-cross-fair places h =
+pub cross_fair : (places : List ℕ) → cross_no places ≡ 0 → CrossFair places
+unfolding cross_no
+cross_fair places h =
     let a = cleared (not (permutation places)) 20 _ h in
-    let b = cleared (not (inLimits (length places) 0)) 21 _ (a .then) in
-    record { whole = not-false (permutation places) (a .fails); within = within-limits (length places) 0 (not-false (inLimits (length places) 0) (b .fails)) }
+    let b = cleared (not (in_limits (length places) 0)) 21 _ a.then in
+    record { whole = not-false (permutation places) a.fails; within = within_limits (length places) 0 (not-false (in_limits (length places) 0) b.fails) }
 
 pub record SizeFair (equal : Bool) (w d : ℕ) : Type 0 where
-  pub equal-all : equal ≡ true
+  pub equal_all : equal ≡ true
   pub within : Within w d
 
-pub size-fair : (equal : Bool) (w d : ℕ) → sizeNo equal w d ≡ 0 → SizeFair equal w d
-unfolding sizeNo
-size-fair equal w d h =
+pub size_fair : (equal : Bool) (w d : ℕ) → size_no equal w d ≡ 0 → SizeFair equal w d
+unfolding size_no
+size_fair equal w d h =
     let a = cleared (not equal) 19 _ h in
-    let b = cleared (not (inLimits w d)) 21 _ (a .then) in
-    record { equal-all = not-false equal (a .fails); within = within-limits w d (not-false (inLimits w d) (b .fails)) }
+    let b = cleared (not (in_limits w d)) 21 _ a.then in
+    record { equal_all = not-false equal a.fails; within = within_limits w d (not-false (in_limits w d) b.fails) }
 
 -- ---- records
 abbrev pub AllFair : Read → Type 0
@@ -67,133 +65,133 @@ AllFair r = (p : Panel) → r ≡ made p → Fair p
 abbrev MembersFair : Members → Type 0
 MembersFair r = (ps : List Panel) → r ≡ all ps → Every Fair ps
 
-refused-fair : (x : Fault) → AllFair (refused x)
-refused-fair x p e = let never : _≡_ {A = ℕ} 0 1 = cc in absurd (omega arith)
+refused_fair : (x : Fault) → AllFair (refused x)
+refused_fair x p e = let never : ◌≡◌ {A = ℕ} 0 1 = cc in absurd (omega arith)
 
-made-fair : (p : Panel) → Fair p → AllFair (made p)
-made-fair p f q e = let same : p ≡ q = cc in rw same at f
+made_fair : (p : Panel) → Fair p → AllFair (made p)
+made_fair p f q e = let same : p ≡ q = cc in rw same at f
 
-cond-fair : (b : Bool) (x y : Read) → (b ≡ true → AllFair x) → AllFair y → AllFair (cond b x y)
-cond-fair true x y f g = f refl
-cond-fair false x y f g = g
+cond_fair : (b : Bool) (x y : Read) → (b ≡ true → AllFair x) → AllFair y → AllFair (cond b x y)
+cond_fair true x y f g = f refl
+cond_fair false x y f g = g
 
-judged-fair : (at number : ℕ) (p : Panel) → (number ≡ 0 → Fair p) → AllFair (judged at number p)
+judged_fair : (at number : ℕ) (p : Panel) → (number ≡ 0 → Fair p) → AllFair (judged at number p)
 unfolding judged
-judged-fair at number p f = cond-fair (eqb number 0) (made p) _ (λ e. made-fair p (f (eqb-true number 0 e))) (refused-fair _)
+judged_fair at number p f = cond_fair (eqb number 0) (made p) _ (λ e. made_fair p (f (eqb-true number 0 e))) (refused_fair _)
 
-cell-fair : Fair cell
-cell-fair = record {
+cell_fair : Fair cell
+cell_fair = record {
   within = record { some = omega arith; wide = omega arith; deep = omega arith };
-  rowed = record { once = λ L l. once-in-order 2; even = λ h. refl };
+  rowed = record { once = λ L l. once_in_order 2; even = λ h. refl };
 }
 
-network-row : (b : Bool) (w c L : ℕ) → ltb L (depthOf w c) ≡ b → Once w (λ v. cond b (placeOf w c L v) v)
-network-row true w c L e = placeOf-once w c L (ltb-true L (depthOf w c) e)
-network-row false w c L e = once-in-order w
+network_row : (b : Bool) (w c L : ℕ) → ltb L (depth_of w c) ≡ b → Once w (λ v. cond b (place_of w c L v) v)
+network_row true w c L e = place_of_once w c L (ltb-true L (depth_of w c) e)
+network_row false w c L e = once_in_order w
 
-named-fair : (w c : ℕ) → openNo w c ≡ 0 → Fair (named w c)
-named-fair w c h =
+named_fair : (w c : ℕ) → open_no w c ≡ 0 → Fair (named w c)
+named_fair w c h =
     let a = allowed w c h in
     record {
-      within = record { some = width-some w (a .width); wide = width-small w (a .width); deep = depthOf-small w c };
+      within = record { some = width_some w a.width; wide = width_small w a.width; deep = depth_of_small w c };
       rowed = record {
-        once = λ L l. network-row (ltb L (depthOf w c)) w c L refl;
-        even = λ l. omega (arith, layered w c 0 (omega arith) .even);
+        once = λ L l. network_row (ltb L (depth_of w c)) w c L refl;
+        even = λ l. omega (arith, (layered w c 0 (omega arith)).even);
       };
     }
 
-crossed-fair : (places : List ℕ) → crossNo places ≡ 0 → Fair (cross places)
-crossed-fair places h =
-    let a = cross-fair places h in
+crossed_fair : (places : List ℕ) → cross_no places ≡ 0 → Fair (cross places)
+crossed_fair places h =
+    let a = cross_fair places h in
     record {
-      within = a .within;
-      rowed = record { once = λ L l. permutation-once places (a .whole); even = λ l. absurd (omega arith) };
+      within = a.within;
+      rowed = record { once = λ L l. permutation_once places a.whole; even = λ l. absurd (omega arith) };
     }
 
-leaf-fair : (at k : ℕ) (b : List ℕ) → AllFair (leafOf at k b)
-unfolding leafOf
-leaf-fair at k b =
-    cond-fair (eqb k 18) _ _ (λ e. made-fair cell cell-fair)
-    (cond-fair (eqb k 19) _ _ (λ e. judged-fair at _ _ (named-fair (field 2 b 0) (field 2 b 2)))
-    (judged-fair at _ _ (crossed-fair (drop 1 b))))
+leaf_fair : (at k : ℕ) (b : List ℕ) → AllFair (leaf_of at k b)
+unfolding leaf_of
+leaf_fair at k b =
+    cond_fair (eqb k 18) _ _ (λ e. made_fair cell cell_fair)
+    (cond_fair (eqb k 19) _ _ (λ e. judged_fair at _ _ (named_fair (field 2 b 0) (field 2 b 2)))
+    (judged_fair at _ _ (crossed_fair (drop 1 b))))
 
-pub every-rowed : {ps : List Panel} → Every Fair ps → Every Rowed ps
-every-rowed none = none
-every-rowed (more f fs) = more (f .rowed) (every-rowed fs)
+pub every_rowed : {ps : List Panel} → Every Fair ps → Every Rowed ps
+every_rowed none = none
+every_rowed (more f fs) = more f.rowed (every_rowed fs)
 
-pub joined-fair : (j : Joint) → Lawful j → (ps : List Panel) → Every Fair ps → sizeNo (allEqual j ps) (joined j ps .width) (joined j ps .depth) ≡ 0 → Fair (joined j ps)
-joined-fair j law ps fs h =
-    let a = size-fair (allEqual j ps) (joined j ps .width) (joined j ps .depth) h in
-    record { within = a .within; rowed = rowed-joined j law ps (a .equal-all) (every-rowed fs) }
+pub joined_fair : (j : Joint) → Lawful j → (ps : List Panel) → Every Fair ps → size_no (all_equal j ps) (joined j ps).width (joined j ps).depth ≡ 0 → Fair (joined j ps)
+joined_fair j law ps fs h =
+    let a = size_fair (all_equal j ps) (joined j ps).width (joined j ps).depth h in
+    record { within = a.within; rowed = rowed_joined j law ps a.equal_all (every_rowed fs) }
 
-joint-fair : (j : Joint) → Lawful j → (at : ℕ) (r : Members) → MembersFair r → AllFair (joinedAt j at r)
-unfolding joinedAt
-joint-fair j law at (stopped x) f = refused-fair x
-joint-fair j law at (all ps) f = judged-fair at _ (joined j ps) (joined-fair j law ps (f ps refl))
+joint_fair : (j : Joint) → Lawful j → (at : ℕ) (r : Members) → MembersFair r → AllFair (joined_at j at r)
+unfolding joined_at
+joint_fair j law at (stopped x) f = refused_fair x
+joint_fair j law at (all ps) f = judged_fair at _ (joined j ps) (joined_fair j law ps (f ps refl))
 
 -- ---- members
-none-fair : MembersFair (all [])
-none-fair ps e = let none-yet : Every Fair [] = none in let same : [] ≡ ps = cc in rw same at none-yet
+none_fair : MembersFair (all [])
+none_fair ps e = let none_yet : Every Fair [] = none in let same : [] ≡ ps = cc in rw same at none_yet
 
-first-fair : (r : Read) (rest : Members) → AllFair r → MembersFair rest → MembersFair (first r rest)
+first_fair : (r : Read) (rest : Members) → AllFair r → MembersFair rest → MembersFair (first r rest)
 unfolding first
-first-fair (refused x) rest f g ps e = let never : _≡_ {A = ℕ} 0 1 = cc in absurd (omega arith)
-first-fair (made p) (stopped x) f g ps e = let never : _≡_ {A = ℕ} 0 1 = cc in absurd (omega arith)
-first-fair (made p) (all qs) f g ps e = let same : p ∷ qs ≡ ps = cc in rw same at (more (f p refl) (g qs refl))
+first_fair (refused x) rest f g ps e = let never : ◌≡◌ {A = ℕ} 0 1 = cc in absurd (omega arith)
+first_fair (made p) (stopped x) f g ps e = let never : ◌≡◌ {A = ℕ} 0 1 = cc in absurd (omega arith)
+first_fair (made p) (all qs) f g ps e = let same : p ∷ qs ≡ ps = cc in rw same at (more (f p refl) (g qs refl))
 
-cond-members : (b : Bool) (x y : Members) → MembersFair x → MembersFair y → MembersFair (cond b x y)
-cond-members true x y f g = f
-cond-members false x y f g = g
+cond_members : (b : Bool) (x y : Members) → MembersFair x → MembersFair y → MembersFair (cond b x y)
+cond_members true x y f g = f
+cond_members false x y f g = g
 
 module _ (m : ℕ → List ℕ → Read) (f : (at : ℕ) (s : List ℕ) → AllFair (m at s)) where
-  members-fair : (n at : ℕ) (s : List ℕ) → MembersFair (membersIn m n at s)
-  unfolding membersIn
-  members-fair zero at s = none-fair
-  members-fair (suc n) at s = cond-members (eqb (length s) 0) _ _ none-fair (first-fair (m at s) _ (f at s) (members-fair n _ _))
+  members_fair : (n at : ℕ) (s : List ℕ) → MembersFair (members_in m n at s)
+  unfolding members_in
+  members_fair zero at s = none_fair
+  members_fair (suc n) at s = cond_members (eqb (length s) 0) _ _ none_fair (first_fair (m at s) _ (f at s) (members_fair n _ _))
 
-  body-fair : (at k : ℕ) (b : List ℕ) → AllFair (bodyOf m at k b)
-  unfolding bodyOf
-  body-fair at k b =
-      cond-fair (eqb k 16) _ _ (λ e. joint-fair series lawful-series at _ (members-fair (length b) (at + 4) b))
-      (cond-fair (eqb k 17) _ _ (λ e. joint-fair beside lawful-beside at _ (members-fair (length b) (at + 4) b)) (leaf-fair at k b))
+  body_fair : (at k : ℕ) (b : List ℕ) → AllFair (body_of m at k b)
+  unfolding body_of
+  body_fair at k b =
+      cond_fair (eqb k 16) _ _ (λ e. joint_fair series lawful_series at _ (members_fair (length b) (at + 4) b))
+      (cond_fair (eqb k 17) _ _ (λ e. joint_fair beside lawful_beside at _ (members_fair (length b) (at + 4) b)) (leaf_fair at k b))
 
-pub record-fair : (left : ℕ) (outermost : Bool) (at : ℕ) (s : List ℕ) → AllFair (recordAt left outermost at s)
-unfolding recordAt
-record-fair zero outermost at s = refused-fair _
-record-fair (suc left) outermost at s =
-    cond-fair (eqb (headNo (suc left) outermost s) 0) _ _ (λ e. body-fair (recordAt left false) (record-fair left false) at (kindIn s) (behind s)) (refused-fair _)
+pub record_fair : (left : ℕ) (outermost : Bool) (at : ℕ) (s : List ℕ) → AllFair (record_at left outermost at s)
+unfolding record_at
+record_fair zero outermost at s = refused_fair _
+record_fair (suc left) outermost at s =
+    cond_fair (eqb (head_no (suc left) outermost s) 0) _ _ (λ e. body_fair (record_at left false) (record_fair left false) at (kind_in s) (behind s)) (refused_fair _)
 
-pub design-fair : (s : List ℕ) (p : Panel) → designOf s ≡ made p → Fair p
-unfolding designOf
-design-fair s = record-fair 8 true 0 s
+pub design_fair : (s : List ℕ) (p : Panel) → design_of s ≡ made p → Fair p
+unfolding design_of
+design_fair s = record_fair 8 true 0 s
 
 -- ---- the feed sheet of a named network: its sheet, and a row in order
-pub rows-ext : (f g : ℕ → ℕ → ℕ) (w n : ℕ) → ((L : ℕ) → L < n → (v : ℕ) → v < w → f L v ≡ g L v) → rows f w n ≡ rows g w n
+pub rows_ext : (f g : ℕ → ℕ → ℕ) (w n : ℕ) → ((L : ℕ) → L < n → (v : ℕ) → v < w → f L v ≡ g L v) → rows f w n ≡ rows g w n
 unfolding rows
-rows-ext f g w zero h = refl
-rows-ext f g w (suc n) h =
-    rw (rows-ext f g w n (λ L l. h L (omega arith)), tabulate-ext (f n) (g n) w (h n (omega arith)))
+rows_ext f g w zero h = refl
+rows_ext f g w (suc n) h =
+    rw (rows_ext f g w n (λ L l. h L (omega arith)), tabulate_ext (f n) (g n) w (h n (omega arith)))
 
-pub named-feed : (w c : ℕ) → feedSheet (named w c) ≡ sheetOf w c ++ tabulate (λ v. v) w
-unfolding feedSheet sheetOf rows
-named-feed w c =
-    let d = depthOf w c in
+pub named_feed : (w c : ℕ) → feed_sheet (named w c) ≡ sheet_of w c ++ tabulate (λ v. v) w
+unfolding feed_sheet sheet_of rows
+named_feed w c =
+    let d = depth_of w c in
     rw (
       add-one d,
-      rows-ext (named w c .place) (placeOf w c) w d (λ L l v m. rw (lt-ltb L d l)),
-      tabulate-ext (named w c .place d) (λ v. v) w (λ v l. rw (le-ltb d d (omega arith))),
+      rows_ext (named w c).place (place_of w c) w d (λ L l v m. rw (lt-ltb L d l)),
+      tabulate_ext ((named w c).place d) (λ v. v) w (λ v l. rw (le-ltb d d (omega arith))),
     )
 
-pub panels-read : PanelsRead
-panels-read = record {
+pub panels_read : PanelsRead
+panels_read = record {
   fair = λ s p e.
-      let f = design-fair s p e in
+      let f = design_fair s p e in
       record {
-        some = f .within .some;
-        wide = f .within .wide;
-        deep = f .within .deep;
-        even = λ l. f .rowed .even l;
-        rows = λ L l. once-permutation (p .width) (p .place L) (f .rowed .once L l);
+        some = f.within.some;
+        wide = f.within.wide;
+        deep = f.within.deep;
+        even = λ l. f.rowed.even l;
+        rows = λ L l. once_permutation p.width (p.place L) (f.rowed.once L l);
       };
-  named-feeds = named-feed;
+  named_feeds = named_feed;
 }

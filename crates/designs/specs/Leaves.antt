@@ -1,16 +1,12 @@
 -- What a record of a design comes to, and those without members (02, P3). Definitions only. Assumes nothing.
-use Prim.Native.Nat.{ℕ}
-use mathlib.Core.Bool.{not, cond}
-use mathlib.Core.List.{List, [], _∷_}
-use lib.Dec.{eqb}
-use lib.ListN.{length, drop}
-use Rattle·order.specs.Order.{_⟶_, firstOf}
-use Rattle·network.specs.Widths.{openNo}
-use Rattle·feed_sheet.specs.Limits.{inLimits, permutation}
-use Rattle·records.specs.Fields.{field}
-use Rattle·records.specs.Reading.{presentOf}
-use Rattle·designs·specs.specs.declared.Fault.{Fault}
-use Rattle·designs·specs.specs.Panels.{Panel, cell, named, cross}
+use Rattle.std.specs.Prelude.{ℕ, not, cond, List, [], ◌∷◌, eqb, length, drop}
+use Rattle.order.specs.Order.{◌⟶◌, first_of}
+use Rattle.network.specs.Widths.{open_no}
+use Rattle.feed_sheet.specs.Limits.{in_limits, permutation}
+use Rattle.records.specs.Fields.{field}
+use Rattle.records.specs.Reading.{present_of}
+use Rattle.designs.specs.declared.Fault.{Fault}
+use Rattle.designs.specs.Panels.{Panel, cell, named, cross}
 
 pub data Read : Type 0 where
   refused : Fault → Read
@@ -21,20 +17,20 @@ abbrev pub fault : ℕ → ℕ → Fault
 fault at number = record { refusal = number; offset = at; present = 0 }
 
 -- the same by its head, with n bytes from its first to the end of its parent, or of the design: of a cut record all n are present
-abbrev pub headFault : ℕ → ℕ → ℕ → Fault
-headFault at number n = record { refusal = number; offset = at; present = presentOf number n }
+abbrev pub head_fault : ℕ → ℕ → ℕ → Fault
+head_fault at number n = record { refusal = number; offset = at; present = present_of number n }
 
 -- the record at an offset is refused by its own number, or makes a panel
 unfoldable pub judged : ℕ → ℕ → Panel → Read
 judged at number p = cond (eqb number 0) (made p) (refused (fault at number))
 
 -- 21 not a permutation; 22 width outside the limit
-unfoldable pub crossNo : List ℕ → ℕ
-crossNo places = firstOf ((not (permutation places) ⟶ 21) ∷ (not (inLimits (length places) 0) ⟶ 22) ∷ [])
+unfoldable pub cross_no : List ℕ → ℕ
+cross_no places = first_of ((not (permutation places) ⟶ 21) ∷ (not (in_limits (length places) 0) ⟶ 22) ∷ [])
 
 -- a record without members, of kind k, with the bytes b behind its head; a named network that is allowed is within the limits
-unfoldable pub leafOf : ℕ → ℕ → List ℕ → Read
-leafOf at k b =
+unfoldable pub leaf_of : ℕ → ℕ → List ℕ → Read
+leaf_of at k b =
     cond (eqb k 18) (made cell)
-    (cond (eqb k 19) (judged at (openNo (field 2 b 0) (field 2 b 2)) (named (field 2 b 0) (field 2 b 2)))
-    (judged at (crossNo (drop 1 b)) (cross (drop 1 b))))
+    (cond (eqb k 19) (judged at (open_no (field 2 b 0) (field 2 b 2)) (named (field 2 b 0) (field 2 b 2)))
+    (judged at (cross_no (drop 1 b)) (cross (drop 1 b))))

@@ -1,14 +1,16 @@
 // What the records of a design are refused for, by themselves. Every call answers every argument.
-ghost use mathlib.Core.Path.{_≡_};
-ghost use lib.ListN.{getD};
-ghost use Rattle·designs·specs.specs.Records.{lengthFits, headNo};
-ghost use Rattle·designs·specs.specs.Leaves.{crossNo};
-ghost use Rattle·designs·specs.specs.Designs.{sizeNo};
-use feed_sheet::in_limits;
-use feed_sheet::is_permutation;
+#![tactic(auto)]
+
+ghost use Rattle.std.specs.Prelude.{◌≡◌, get_or};
+ghost use Rattle.designs.specs.Records.{length_fits, head_no};
+ghost use Rattle.designs.specs.Leaves.{cross_no};
+ghost use Rattle.designs.specs.Designs.{size_no};
+
+use feed_sheet::{in_limits, is_permutation};
 use records::field_of_two;
 
 // Why a design is refused: the number, the offset of the record refused, and how many bytes of it are present where it is cut, else 0.
+#[derive(Clone, Copy)]
 pub struct Fault {
     pub refusal: u8,
     pub offset: usize,
@@ -17,14 +19,15 @@ pub struct Fault {
 
 // The byte behind the head, 0 where there is none.
 fn fifth_of(bytes: &[u8]) -> u8
-    ensures { λ r. ⌜ r ≡ getD (now (bytes .entry)) 4 0 ⌝ }
+    ensures { result ≡ get_or bytes.now 4 0 }
 {
     if 4 < bytes.len() { bytes[4] } else { 0 }
 }
 
 // Is that the length of a record of the kind, whose fifth byte is given?
+#[tactic(auto, unfolding(crate::specs::Records::length_fits))]
 fn length_fits(kind: u16, size: u16, fifth: u8) -> bool
-    ensures { λ r. ⌜ r ≡ lengthFits kind size fifth ⌝ }
+    ensures { result ≡ length_fits kind size fifth }
 {
     match kind {
         18 => size == 4,
@@ -36,7 +39,7 @@ fn length_fits(kind: u16, size: u16, fifth: u8) -> bool
 
 // Why the record in front is refused before its members are looked at.
 pub fn head_refusal(bytes: &[u8], left: usize, outermost: bool) -> u8
-    ensures { λ r. ⌜ r ≡ headNo left outermost (now (bytes .entry)) ⌝ }
+    ensures { result ≡ head_no left outermost bytes.now }
 {
     let n = bytes.len();
     let size = field_of_two(bytes, 0);
@@ -74,7 +77,7 @@ pub fn head_refusal(bytes: &[u8], left: usize, outermost: bool) -> u8
 
 // Why a cross is refused.
 pub fn cross_refusal(places: &[u8]) -> u8
-    ensures { λ r. ⌜ r ≡ crossNo (now (places .entry)) ⌝ }
+    ensures { result ≡ cross_no places.now }
 {
     let whole = is_permutation(places);
     if !whole {
@@ -89,7 +92,7 @@ pub fn cross_refusal(places: &[u8]) -> u8
 
 // Why members of so much size together are refused.
 pub fn size_refusal(equal: bool, width: usize, depth: usize) -> u8
-    ensures { λ r. ⌜ r ≡ sizeNo equal width depth ⌝ }
+    ensures { result ≡ size_no equal width depth }
 {
     if !equal {
         return 20;

@@ -1,15 +1,11 @@
 -- Histories of the small cabinet (02, P6): enters, turns and polls from an opening, and what they tell. Each call is made by the very
 -- definition that its contract cites. Definitions only. Assumes nothing.
-use Prim.Native.Nat.{ℕ, _+_}
-use mathlib.Core.Path.{_≡_}
-use mathlib.Core.Bool.{cond}
-use mathlib.Core.List.{List, [], _∷_, _++_, map}
-use lib.Dec.{eqb}
-use Rattle·rest.specs.Sum.{only}
-use Rattle·moves.specs.Answer.{valuesOf}
-use Rattle·promise.specs.History.{Call, enter, turn, Deal, dealOf}
-use Rattle·small.specs.declared.Cabinet.{Cabinet}
-use Rattle·small.specs.Small.{openSmall, enterSmall, turnSmall, pollSmall}
+use Rattle.std.specs.Prelude.{ℕ, ◌+◌, ◌≡◌, cond, List, [], ◌∷◌, ◌++◌, map, eqb}
+use Rattle.rest.specs.Sum.{only}
+use Rattle.moves.specs.Answer.{values_of}
+use Rattle.promise.specs.History.{Call, enter, turn, Deal, deal_of}
+use Rattle.small.specs.declared.Cabinet.{Cabinet}
+use Rattle.small.specs.Small.{open_small, enter_small, turn_small, poll_small}
 
 -- a call: an enter or a turn, or a poll of an exit
 pub data SmallCall : Type 0 where
@@ -26,48 +22,48 @@ pub record SmallAfter : Type 0 where
   pub cabinet : Cabinet
   pub told : List Told
 
-unfoldable pub smallCall : Cabinet → SmallCall → SmallAfter
-smallCall x (call (enter t v)) = record { cabinet = enterSmall x t v .cabinet; told = [] }
-smallCall x (call (turn t)) = record { cabinet = turnSmall x t .cabinet; told = map dealt (dealOf t (valuesOf (turnSmall x t .answer))) }
-smallCall x (poll i) =
-    let p = pollSmall x i in
-    record { cabinet = p .cabinet; told = cond (eqb (p .refusal) 0) (polled i (p .yielded) ∷ []) [] }
+unfoldable pub small_call : Cabinet → SmallCall → SmallAfter
+small_call x (call (enter t v)) = record { cabinet = (enter_small x t v).cabinet; told = [] }
+small_call x (call (turn t)) = record { cabinet = (turn_small x t).cabinet; told = map dealt (deal_of t (values_of (turn_small x t).answer)) }
+small_call x (poll i) =
+    let p = poll_small x i in
+    record { cabinet = p.cabinet; told = cond (eqb p.refusal 0) (polled i p.yielded ∷ []) [] }
 
-unfoldable pub smallCalls : Cabinet → List SmallCall → SmallAfter
-smallCalls x [] = record { cabinet = x; told = [] }
-smallCalls x (c ∷ rest) =
-    let first = smallCall x c in
-    let then = smallCalls (first .cabinet) rest in
-    record { cabinet = then .cabinet; told = first .told ++ then .told }
+unfoldable pub small_calls : Cabinet → List SmallCall → SmallAfter
+small_calls x [] = record { cabinet = x; told = [] }
+small_calls x (c ∷ rest) =
+    let first = small_call x c in
+    let then = small_calls first.cabinet rest in
+    record { cabinet = then.cabinet; told = first.told ++ then.told }
 
-unfoldable pub smallHistory : ℕ → ℕ → List SmallCall → SmallAfter
-smallHistory w c calls = smallCalls (openSmall w c .cabinet) calls
+unfoldable pub small_history : ℕ → ℕ → List SmallCall → SmallAfter
+small_history w c calls = small_calls (open_small w c).cabinet calls
 
 -- the enters and turns alone
-unfoldable pub runCalls : List SmallCall → List Call
-runCalls [] = []
-runCalls (call c ∷ rest) = c ∷ runCalls rest
-runCalls (poll i ∷ rest) = runCalls rest
+unfoldable pub run_calls : List SmallCall → List Call
+run_calls [] = []
+run_calls (call c ∷ rest) = c ∷ run_calls rest
+run_calls (poll i ∷ rest) = run_calls rest
 
 -- the numbers dealt, and the sum of the yields of exit i
-unfoldable pub dealsIn : List Told → List Deal
-dealsIn [] = []
-dealsIn (dealt e ∷ rest) = e ∷ dealsIn rest
-dealsIn (polled j y ∷ rest) = dealsIn rest
+unfoldable pub deals_in : List Told → List Deal
+deals_in [] = []
+deals_in (dealt e ∷ rest) = e ∷ deals_in rest
+deals_in (polled j y ∷ rest) = deals_in rest
 
-unfoldable pub yieldsAt : ℕ → List Told → ℕ
-yieldsAt i [] = 0
-yieldsAt i (dealt e ∷ rest) = yieldsAt i rest
-yieldsAt i (polled j y ∷ rest) = only j i y + yieldsAt i rest
+unfoldable pub yields_at : ℕ → List Told → ℕ
+yields_at i [] = 0
+yields_at i (dealt e ∷ rest) = yields_at i rest
+yields_at i (polled j y ∷ rest) = only j i y + yields_at i rest
 
 -- how many numbers were dealt at exit i since the last poll of it, or since opening, where k were before
 unfoldable pub since : ℕ → ℕ → List Told → ℕ
 since i k [] = k
-since i k (dealt e ∷ rest) = since i (k + only (e .exit) i 1) rest
+since i k (dealt e ∷ rest) = since i (k + only e.exit i 1) rest
 since i k (polled j y ∷ rest) = since i (cond (eqb j i) 0 k) rest
 
 -- P holds at each poll of exit i, of the numbers dealt there since the last and of the yield
 unfoldable pub AtPolls : (ℕ → ℕ → Type 0) → ℕ → ℕ → List Told → Type 0
 AtPolls P i k [] = Unit
-AtPolls P i k (dealt e ∷ rest) = AtPolls P i (k + only (e .exit) i 1) rest
+AtPolls P i k (dealt e ∷ rest) = AtPolls P i (k + only e.exit i 1) rest
 AtPolls P i k (polled j y ∷ rest) = (j ≡ i → P k y) × AtPolls P i (cond (eqb j i) 0 k) rest

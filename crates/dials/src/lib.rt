@@ -1,11 +1,14 @@
 // A dial of 16 bits at an exit of the small cabinet, which goes round from 65,535 to 0, with its last reading and the sum of its
 // yields, which goes round at 2^32; and the desk's working out of the highest number dealt, from the sums of all exits.
-use board::EXITS;
-ghost use mathlib.Core.Path.{_≡_};
-ghost use Prim.Native.Nat.{_≤_, _<_};
-ghost use Rattle·dials·specs.specs.Dials.{openDial, advanceOf, pollOf};
-ghost use Rattle·dials·specs.specs.Highest.{larger, pastAt, pastBelow, highestOf};
+#![tactic(auto)]
 
+ghost use Rattle.std.specs.Prelude.{◌≡◌, ◌<◌, ◌≤◌};
+ghost use Rattle.dials.specs.Dials.{open_dial, advance_of, poll_of};
+ghost use Rattle.dials.specs.Highest.{larger, past_at, past_below, highest_of};
+
+use board::EXITS;
+
+#[derive(Clone, Copy)]
 pub struct Dial {
     pub now: u16,
     pub last: u16,
@@ -13,12 +16,14 @@ pub struct Dial {
 }
 
 // What a poll gives: its yield, and the dial after it.
+#[derive(Clone, Copy)]
 pub struct Polled {
     pub yielded: u16,
     pub dial: Dial,
 }
 
 // The highest number dealt, or that nothing was dealt.
+#[derive(Clone, Copy)]
 pub enum Top {
     Number(u64),
     Nothing,
@@ -28,7 +33,7 @@ pub enum Top {
 impl Dial {
     // As it opens.
     pub fn open() -> Dial
-        ensures { λ r. ⌜ r ≡ openDial ⌝ }
+        ensures { result ≡ open_dial }
     {
         Dial {
             now: 0,
@@ -39,7 +44,7 @@ impl Dial {
 
     // A number is dealt at the dial's exit.
     pub fn advance(self) -> Dial
-        ensures { λ r. ⌜ r ≡ advanceOf self ⌝ }
+        ensures { result ≡ advance_of self }
     {
         let now = std::num::wrapping_add_u16(self.now, 1);
         Dial {
@@ -51,7 +56,7 @@ impl Dial {
 
     // The numbers dealt since the last poll.
     pub fn poll(self) -> Polled
-        ensures { λ r. ⌜ r ≡ pollOf self ⌝ }
+        ensures { result ≡ poll_of self }
     {
         let yielded = std::num::wrapping_sub_u16(self.now, self.last);
         let sum = std::num::wrapping_add_u32(self.sum, yielded as u32);
@@ -66,8 +71,8 @@ impl Dial {
 
 // One more than the highest number that an exit has dealt, and 0 where it has dealt none: below 64 · 2^32.
 fn past_at(width: u16, exit: u16, sum: u32) -> u64
-    requires { ⌜ (width ≤ 64) × (exit < width) ⌝ }
-    ensures { λ r. ⌜ r ≡ pastAt width exit sum ⌝ }
+    requires { (width ≤ 64) × (exit < width) }
+    ensures { result ≡ past_at width exit sum }
 {
     if sum == 0 {
         return 0;
@@ -77,14 +82,14 @@ fn past_at(width: u16, exit: u16, sum: u32) -> u64
 }
 
 fn larger_of(a: u64, b: u64) -> u64
-    ensures { λ r. ⌜ r ≡ larger a b ⌝ }
+    ensures { result ≡ larger a b }
 {
     if a <= b { b } else { a }
 }
 
 fn past_all(width: u16, sums: [u32; EXITS]) -> u64
-    requires { ⌜ width ≤ 64 ⌝ }
-    ensures { λ r. ⌜ r ≡ pastBelow width sums width ⌝ }
+    requires { width ≤ 64 }
+    ensures { result ≡ past_below width sums width }
 {
     let mut past: u64 = 0;
     let mut i: u16 = 0;
@@ -98,7 +103,7 @@ fn past_all(width: u16, sums: [u32; EXITS]) -> u64
 
 // The highest number dealt, from the sums of the yields of all exits below the width; refused by 1.
 pub fn highest(width: u16, sums: [u32; EXITS]) -> Top
-    ensures { λ r. ⌜ r ≡ highestOf width sums ⌝ }
+    ensures { result ≡ highest_of width sums }
 {
     let allowed = network::width_ok(width);
     if !allowed {

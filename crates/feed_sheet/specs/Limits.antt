@@ -1,13 +1,9 @@
 -- Limits of a panel, and when a row is a permutation (02, P3). Definitions only. Assumes nothing.
-use Prim.Native.Nat.{ℕ}
-use mathlib.Core.Bool.{Bool, true, false, not, cond, _&&_}
-use mathlib.Core.List.{List, [], _∷_}
-use lib.Dec.{ltb, leb, eqb}
-use lib.ListN.{length}
+use Rattle.std.specs.Prelude.{ℕ, Bool, true, false, not, cond, ◌&&◌, List, [], ◌∷◌, ltb, leb, eqb, length}
 
 -- width 1 to 64, depth at most 36
-abbrev pub inLimits : ℕ → ℕ → Bool
-inLimits w d = leb 1 w && (leb w 64 && leb d 36)
+abbrev pub in_limits : ℕ → ℕ → Bool
+in_limits w d = leb 1 w && (leb w 64 && leb d 36)
 
 unfoldable pub among : ℕ → List ℕ → Bool
 among x [] = false

@@ -1,11 +1,10 @@
 // A feed sheet, lent and only read: whether a row is a permutation, how the sheet is judged for a width and a depth, and where it
 // sends a wire. Every call answers every argument.
-ghost use mathlib.Core.Path.{_≡_};
-ghost use mathlib.Core.Bool.{not};
-ghost use Prim.Native.Nat.{_+_, _*_, _<_, _≤_};
-ghost use lib.ListN.{length};
-ghost use Rattle·feed_sheet·specs.specs.Limits.{inLimits, permutation};
-ghost use Rattle·feed_sheet·specs.specs.Sheet.{unpaired, fedAt, rowsOk, feedNo};
+#![tactic(auto)]
+
+ghost use Rattle.std.specs.Prelude.{◌≡◌, not, ◌+◌, ◌*◌, ◌<◌, ◌≤◌, length};
+ghost use Rattle.feed_sheet.specs.Limits.{in_limits, permutation};
+ghost use Rattle.feed_sheet.specs.Sheet.{unpaired, fed_at, rows_ok, feed_no};
 
 pub const MAX_WIDTH: usize = network::MAX_WIDTH as usize;
 
@@ -13,7 +12,7 @@ pub const MAX_DEPTH: usize = 36;
 
 // Does the row hold every number below its length once? Read from its end: a byte is looked for among those behind it.
 pub fn is_permutation(row: &[u8]) -> bool
-    ensures { λ r. ⌜ r ≡ permutation (now (row .entry)) ⌝ }
+    ensures { result ≡ permutation row.now }
 {
     let n = row.len();
     let mut seen = [false; 256];
@@ -34,22 +33,22 @@ pub fn is_permutation(row: &[u8]) -> bool
 
 // Width 1 to 64, depth at most 36.
 pub fn in_limits(width: usize, depth: usize) -> bool
-    ensures { λ r. ⌜ r ≡ inLimits width depth ⌝ }
+    ensures { result ≡ in_limits width depth }
 {
     (1 <= width) & ((width <= MAX_WIDTH) & (depth <= MAX_DEPTH))
 }
 
 // An odd width with layers.
 pub fn is_unpaired(width: u16, depth: u16) -> bool
-    ensures { λ r. ⌜ r ≡ unpaired width depth ⌝ }
+    ensures { result ≡ unpaired width depth }
 {
     (width % 2 == 1) & (0 < depth)
 }
 
 // Are all rows permutations?
 fn rows_ok(sheet: &[u8], width: usize, rows: usize) -> bool
-    requires { ⌜ rows * width ≤ length (now sheet) ⌝ }
-    ensures { λ r. ⌜ r ≡ rowsOk width (now (sheet .entry)) rows ⌝ }
+    requires { rows * width ≤ length sheet.now }
+    ensures { result ≡ rows_ok width sheet.now rows }
 {
     let mut row = 0;
     while row < rows {
@@ -65,7 +64,7 @@ fn rows_ok(sheet: &[u8], width: usize, rows: usize) -> bool
 
 // How a run call judges the sheet that it is lent: 22, 20, 3, 21, or 0.
 pub fn refusal(sheet: &[u8], width: u16, depth: u16) -> u8
-    ensures { λ r. ⌜ r ≡ feedNo width depth (now (sheet .entry)) ⌝ }
+    ensures { result ≡ feed_no width depth sheet.now }
 {
     let w = width as usize;
     let d = depth as usize;
@@ -87,7 +86,7 @@ pub fn refusal(sheet: &[u8], width: u16, depth: u16) -> u8
 
 // Where the sheet sends a wire; past its end, 0.
 pub fn fed_at(sheet: &[u8], width: u16, level: u16, wire: u16) -> u8
-    ensures { λ r. ⌜ r ≡ fedAt width (now (sheet .entry)) level wire ⌝ }
+    ensures { result ≡ fed_at width sheet.now level wire }
 {
     let at = (level as usize) * (width as usize) + (wire as usize);
     if at < sheet.len() {

@@ -1,113 +1,113 @@
 -- What every call keeps. In order: a sound run's parts; the run as it opens; shape and soundness are kept, whatever sheet is lent.
 -- Assumes nothing.
-use mathlib.Core.Path.{_≡_, refl}
-use mathlib.Core.Bool.{true, false, not, _&&_}
+use mathlib.Core.Path.{◌≡◌, refl}
+use mathlib.Core.Bool.{true, false, not, ◌&&◌}
 use mathlib.Core.List.{List}
 use Prim.Native.Nat.{ℕ}
 use native.Mathlib.Omega.{arith}
 use lib.Dec.{eqb}
 use borrow.Author.Tests.{eqb-true, not-true}
-use Rattle·board.specs.declared.Board.{Board}
-use Rattle·board.specs.Board.{placeAt}
-use Rattle·board.specs.Sound.{soundBoard}
-use Rattle·board.proofs.Lists.{and-left, and-right, cond-case}
-use Rattle·board.proofs.Sound as board
-use Rattle·moves.proofs.Keeps as keeps
-use Rattle·feed_sheet.specs.Limits.{inLimits}
-use Rattle·feed_sheet.specs.Sheet.{unpaired, feedNo}
-use Rattle·feed_sheet.proofs.Sheet.{Sized, sized, judged, fed-once}
-use Rattle·feeds·specs.specs.declared.FeedRun.{FeedRun}
-use Rattle·feeds·specs.specs.declared.FeedEntered.{FeedEntered}
-use Rattle·feeds·specs.specs.declared.FeedTurned.{FeedTurned}
-use Rattle·feeds·specs.specs.Feeds.{freshFeed, feedSound, withBoard, lentNo, feedEnterOf, feedsOf, exitOf, feedTurnOf}
+use Rattle.board.specs.declared.Board.{Board}
+use Rattle.board.specs.Board.{place_at}
+use Rattle.board.specs.Sound.{sound_board}
+use Rattle.board.proofs.Lists.{and_left, and_right, cond_case}
+use Rattle.board.proofs.Sound as board
+use Rattle.moves.proofs.Keeps as keeps
+use Rattle.feed_sheet.specs.Limits.{in_limits}
+use Rattle.feed_sheet.specs.Sheet.{unpaired, feed_no}
+use Rattle.feed_sheet.proofs.Sheet.{Sized, sized, judged, fed_once}
+use Rattle.feeds.specs.declared.FeedRun.{FeedRun}
+use Rattle.feeds.specs.declared.FeedEntered.{FeedEntered}
+use Rattle.feeds.specs.declared.FeedTurned.{FeedTurned}
+use Rattle.feeds.specs.Feeds.{fresh_feed, feed_sound, with_board, lent_no, feed_enter_of, feeds_of, exit_of, feed_turn_of}
 
 -- the arrays are as long as their types say
 abbrev pub Shaped : FeedRun → Type 0
-Shaped x = board.Shaped (x .board)
+Shaped x = board.Shaped x.board
 
 -- ---- soundness
 pub record Parts (x : FeedRun) : Type 0 where
-  pub size : inLimits (x .width) (x .depth) ≡ true
-  pub pairs : unpaired (x .width) (x .depth) ≡ false
-  pub board : soundBoard (x .width) (x .depth) (x .board) ≡ true
+  pub size : in_limits x.width x.depth ≡ true
+  pub pairs : unpaired x.width x.depth ≡ false
+  pub board : sound_board x.width x.depth x.board ≡ true
 
-pub parts : (x : FeedRun) → feedSound x ≡ true → Parts x
-unfolding feedSound
+pub parts : (x : FeedRun) → feed_sound x ≡ true → Parts x
+unfolding feed_sound
 parts x h =
-    let a = inLimits (x .width) (x .depth) in
-    let b = not (unpaired (x .width) (x .depth)) in
-    let c = soundBoard (x .width) (x .depth) (x .board) in
-    let both = and-left (a && b) c h in
-    record { size = and-left a b both; pairs = not-true _ (and-right a b both); board = and-right (a && b) c h }
+    let a = in_limits x.width x.depth in
+    let b = not (unpaired x.width x.depth) in
+    let c = sound_board x.width x.depth x.board in
+    let both = and_left (a && b) c h in
+    record { size = and_left a b both; pairs = not-true _ (and_right a b both); board = and_right (a && b) c h }
 
-pub sized-parts : {x : FeedRun} → Parts x → Sized (x .width) (x .depth)
-sized-parts p = sized _ _ (p .size) (p .pairs)
+pub sized_parts : {x : FeedRun} → Parts x → Sized x.width x.depth
+sized_parts p = sized _ _ p.size p.pairs
 
 -- a sound run with another sound board
-pub sound-with : (x : FeedRun) (b : Board) → inLimits (x .width) (x .depth) ≡ true → unpaired (x .width) (x .depth) ≡ false
-    → soundBoard (x .width) (x .depth) b ≡ true → feedSound (withBoard x b) ≡ true
-unfolding feedSound
-sound-with x b size pairs h = rw (size, pairs, h)
+pub sound_with : (x : FeedRun) (b : Board) → in_limits x.width x.depth ≡ true → unpaired x.width x.depth ≡ false
+    → sound_board x.width x.depth b ≡ true → feed_sound (with_board x b) ≡ true
+unfolding feed_sound
+sound_with x b size pairs h = rw (size, pairs, h)
 
 -- ---- the run as it opens
-pub fresh-sound : (w d : ℕ) (sheet : List ℕ) → feedNo w d sheet ≡ 0 → feedSound (freshFeed w d) ≡ true
-unfolding feedSound freshFeed
-fresh-sound w d sheet h =
+pub fresh_sound : (w d : ℕ) (sheet : List ℕ) → feed_no w d sheet ≡ 0 → feed_sound (fresh_feed w d) ≡ true
+unfolding feed_sound fresh_feed
+fresh_sound w d sheet h =
     let j = judged w d sheet h in
-    rw (j .size, j .pairs, board.fresh-sound w d)
+    rw (j.size, j.pairs, board.fresh_sound w d)
 
 -- a refused opening gives a record that is not sound
-pub refused-unsound : feedSound (freshFeed 0 0) ≡ false
-unfolding feedSound freshFeed
-refused-unsound = refl
+pub refused_unsound : feed_sound (fresh_feed 0 0) ≡ false
+unfolding feed_sound fresh_feed
+refused_unsound = refl
 
 -- ---- the sheet leads a token inside to a place of the network
-pub leads : (sheet : List ℕ) (x : FeedRun) (t : ℕ) → lentNo x sheet ≡ 0
-    → keeps.Leads (x .width) (x .depth) (placeAt (x .board) t) (feedsOf sheet x t) (exitOf sheet x t)
-unfolding feedsOf exitOf
+pub leads : (sheet : List ℕ) (x : FeedRun) (t : ℕ) → lent_no x sheet ≡ 0
+    → keeps.Leads x.width x.depth (place_at x.board t) (feeds_of sheet x t) (exit_of sheet x t)
+unfolding feeds_of exit_of
 leads sheet x t h =
-    let j = judged (x .width) (x .depth) sheet h in
-    let s = sized _ _ (j .size) (j .pairs) in
-    let p = placeAt (x .board) t in
+    let j = judged x.width x.depth sheet h in
+    let s = sized _ _ j.size j.pairs in
+    let p = place_at x.board t in
     record {
-      most = s .within .wide;
-      even = λ l. s .even (omega arith);
-      place = λ l v. fed-once j (p .level) (omega arith) .below (p .wire) v;
-      out = λ v. fed-once j (x .depth) (omega arith) .below (p .wire) v;
+      most = s.within.wide;
+      even = λ l. s.even (omega arith);
+      place = λ l v. (fed_once j p.level (omega arith)).below p.wire v;
+      out = λ v. (fed_once j x.depth (omega arith)).below p.wire v;
     }
 
 -- ---- shape and soundness
 module _ (sheet : List ℕ) (x : FeedRun) (s : Shaped x) where
-  pub shaped-enter : (t v : ℕ) → Shaped (feedEnterOf sheet x t v .run)
-  unfolding feedEnterOf
-  shaped-enter t v =
-      cond-case (λ (e : FeedEntered). Shaped (e .run)) (eqb (lentNo x sheet) 0) _ _
-      (λ _. keeps.shaped-enter (x .board) s (feedSound x) (x .width) t v)
+  pub shaped_enter : (t v : ℕ) → Shaped (feed_enter_of sheet x t v).run
+  unfolding feed_enter_of
+  shaped_enter t v =
+      cond_case (λ (e : FeedEntered). Shaped e.run) (eqb (lent_no x sheet) 0) _ _
+      (λ _. keeps.shaped_enter x.board s (feed_sound x) x.width t v)
       (λ _. s)
 
-  pub shaped-turn : (t : ℕ) → Shaped (feedTurnOf sheet x t .run)
-  unfolding feedTurnOf
-  shaped-turn t =
-      cond-case (λ (e : FeedTurned). Shaped (e .run)) (eqb (lentNo x sheet) 0) _ _
-      (λ _. keeps.shaped-turn (x .board) s (feedSound x) (x .width) (x .depth) t (feedsOf sheet x t) (exitOf sheet x t))
+  pub shaped_turn : (t : ℕ) → Shaped (feed_turn_of sheet x t).run
+  unfolding feed_turn_of
+  shaped_turn t =
+      cond_case (λ (e : FeedTurned). Shaped e.run) (eqb (lent_no x sheet) 0) _ _
+      (λ _. keeps.shaped_turn x.board s (feed_sound x) x.width x.depth t (feeds_of sheet x t) (exit_of sheet x t))
       (λ _. s)
 
-  module _ (h : feedSound x ≡ true) where
-    pub enter-keeps : (t v : ℕ) → feedSound (feedEnterOf sheet x t v .run) ≡ true
-    unfolding feedEnterOf
-    enter-keeps t v =
+  module _ (h : feed_sound x ≡ true) where
+    pub enter_keeps : (t v : ℕ) → feed_sound (feed_enter_of sheet x t v).run ≡ true
+    unfolding feed_enter_of
+    enter_keeps t v =
         let p = parts x h in
-        cond-case (λ (e : FeedEntered). feedSound (e .run) ≡ true) (eqb (lentNo x sheet) 0) _ _
-        (λ _. sound-with x _ (p .size) (p .pairs) (keeps.enter-sound (feedSound x) (x .width) (x .depth) (x .board) t v s (p .board)))
+        cond_case (λ (e : FeedEntered). feed_sound e.run ≡ true) (eqb (lent_no x sheet) 0) _ _
+        (λ _. sound_with x _ p.size p.pairs (keeps.enter_sound (feed_sound x) x.width x.depth x.board t v s p.board))
         (λ _. h)
 
-    pub turn-keeps : (t : ℕ) → feedSound (feedTurnOf sheet x t .run) ≡ true
-    unfolding feedTurnOf
-    turn-keeps t =
+    pub turn_keeps : (t : ℕ) → feed_sound (feed_turn_of sheet x t).run ≡ true
+    unfolding feed_turn_of
+    turn_keeps t =
         let p = parts x h in
-        cond-case (λ (e : FeedTurned). feedSound (e .run) ≡ true) (eqb (lentNo x sheet) 0) _ _
+        cond_case (λ (e : FeedTurned). feed_sound e.run ≡ true) (eqb (lent_no x sheet) 0) _ _
         (λ e.
-        sound-with x _ (p .size) (p .pairs)
-        (keeps.turn-sound (feedSound x) (x .width) (x .depth) (x .board) t (feedsOf sheet x t) (exitOf sheet x t) s
-        (leads sheet x t (eqb-true (lentNo x sheet) 0 e)) (p .board)))
+        sound_with x _ p.size p.pairs
+        (keeps.turn_sound (feed_sound x) x.width x.depth x.board t (feeds_of sheet x t) (exit_of sheet x t) s
+        (leads sheet x t (eqb-true (lent_no x sheet) 0 e)) p.board))
         (λ _. h)

@@ -1,36 +1,41 @@
 // Runs over a feed sheet, by value: opened, entered and turned. The sheet is lent to each call and only read; a call that its sheet
 // or its own order refuses gives the record back as it was. Every call answers every argument.
-use board::Board;
-use moves::Moved;
-use moves::Turn;
-ghost use mathlib.Core.Path.{_≡_};
-ghost use mathlib.Core.Bool.{true};
-ghost use Rattle·feed_sheet.specs.Sheet.{feedNo};
-ghost use Rattle·feeds·specs.specs.Feeds.{freshFeed, feedOpenOf, feedSound, withBoard, lentNo, feedEnterOf, feedTurnOf};
+#![tactic(auto)]
 
+ghost use Rattle.std.specs.Prelude.{◌≡◌, true};
+ghost use Rattle.feed_sheet.specs.Sheet.{feed_no};
+ghost use Rattle.feeds.specs.Feeds.{fresh_feed, feed_open_of, feed_sound, with_board, lent_no, feed_enter_of, feed_turn_of};
+
+use board::Board;
+use moves::{Moved, Turn};
+
+#[derive(Clone, Copy)]
 pub struct FeedRun {
     pub width: u16,
     pub depth: u16,
     pub board: Board,
 }
 
+#[derive(Clone, Copy)]
 pub struct FeedOpened {
     pub refusal: u8,
     pub run: FeedRun,
 }
 
+#[derive(Clone, Copy)]
 pub struct FeedEntered {
     pub refusal: u8,
     pub run: FeedRun,
 }
 
+#[derive(Clone, Copy)]
 pub struct FeedTurned {
     pub answer: Turn,
     pub run: FeedRun,
 }
 
 fn made(width: u16, depth: u16) -> FeedRun
-    ensures { λ r. ⌜ r ≡ freshFeed width depth ⌝ }
+    ensures { result ≡ fresh_feed width depth }
 {
     let board = board::fresh();
     FeedRun {
@@ -41,7 +46,7 @@ fn made(width: u16, depth: u16) -> FeedRun
 }
 
 fn moved_on(run: FeedRun, moved: Moved) -> FeedTurned
-    ensures { λ r. ⌜ r ≡ record { answer = moved .answer; run = withBoard run (moved .board) } ⌝ }
+    ensures { result ≡ record { answer = moved.answer; run = with_board run moved.board } }
 {
     let answer = moved.answer;
     let board = moved.board;
@@ -57,8 +62,8 @@ fn moved_on(run: FeedRun, moved: Moved) -> FeedTurned
 
 // A token enters a sound run, whose sheet is not refused.
 fn enter_judged(run: FeedRun, token: u16, wire: u16, sheet: &[u8]) -> FeedEntered
-    requires { ⌜ (lentNo run (now sheet) ≡ 0) × (feedSound run ≡ true) ⌝ }
-    ensures { λ r. ⌜ r ≡ feedEnterOf (now (sheet .entry)) run token wire ⌝ }
+    requires { (lent_no run sheet.now ≡ 0) × (feed_sound run ≡ true) }
+    ensures { result ≡ feed_enter_of sheet.now run token wire }
 {
     let board = run.board;
     let entered = moves::enter(board, run.width, token, wire);
@@ -75,8 +80,8 @@ fn enter_judged(run: FeedRun, token: u16, wire: u16, sheet: &[u8]) -> FeedEntere
 
 // A turn in a sound run, whose sheet is not refused.
 fn turn_judged(run: FeedRun, token: u16, sheet: &[u8]) -> FeedTurned
-    requires { ⌜ (lentNo run (now sheet) ≡ 0) × (feedSound run ≡ true) ⌝ }
-    ensures { λ r. ⌜ r ≡ feedTurnOf (now (sheet .entry)) run token ⌝ }
+    requires { (lent_no run sheet.now ≡ 0) × (feed_sound run ≡ true) }
+    ensures { result ≡ feed_turn_of sheet.now run token }
 {
     let board = run.board;
     let width = run.width;
@@ -102,7 +107,7 @@ fn turn_judged(run: FeedRun, token: u16, sheet: &[u8]) -> FeedTurned
 impl FeedRun {
     // A run with nothing entered; refused by 22, 20, 3, 21 of the sheet, with a record of width 0 and depth 0, which is not sound.
     pub fn open(width: u16, depth: u16, sheet: &[u8]) -> FeedOpened
-        ensures { λ r. ⌜ r ≡ feedOpenOf width depth (now (sheet .entry)) ⌝ }
+        ensures { result ≡ feed_open_of width depth sheet.now }
     {
         let refusal = feed_sheet::refusal(sheet, width, depth);
         if refusal == 0 {
@@ -114,7 +119,7 @@ impl FeedRun {
     }
 
     pub fn is_sound(self) -> bool
-        ensures { λ r. ⌜ r ≡ feedSound self ⌝ }
+        ensures { result ≡ feed_sound self }
     {
         let width = self.width;
         let depth = self.depth;
@@ -127,7 +132,7 @@ impl FeedRun {
 
     // A token enters on a wire of level 0; refused by 22, 20, 3, 21 of the sheet, then 9, 4, 5, 6, 7.
     pub fn enter(self, token: u16, wire: u16, sheet: &[u8]) -> FeedEntered
-        ensures { λ r. ⌜ r ≡ feedEnterOf (now (sheet .entry)) self token wire ⌝ }
+        ensures { result ≡ feed_enter_of sheet.now self token wire }
     {
         let refusal = feed_sheet::refusal(sheet, self.width, self.depth);
         if refusal != 0 {
@@ -146,7 +151,7 @@ impl FeedRun {
     // A token inside passes its next cell, or is dealt a number at the exit that the exit row names for its wire; refused by 22, 20,
     // 3, 21 of the sheet, then 9, 4, 8.
     pub fn turn(self, token: u16, sheet: &[u8]) -> FeedTurned
-        ensures { λ r. ⌜ r ≡ feedTurnOf (now (sheet .entry)) self token ⌝ }
+        ensures { result ≡ feed_turn_of sheet.now self token }
     {
         let refused = feed_sheet::refusal(sheet, self.width, self.depth);
         if refused != 0 {

@@ -1,32 +1,32 @@
 -- The bytes of the reports. In order: of a list and another; of a turn's answer; their length. Assumes nothing.
-use Prim.Native.Nat.{ℕ, _*_}
-use mathlib.Core.Path.{_≡_, refl}
-use mathlib.Core.List.{List, [], _∷_, _++_, append-assoc, append-nil}
+use Prim.Native.Nat.{ℕ, ◌*◌}
+use mathlib.Core.Path.{◌≡◌, refl}
+use mathlib.Core.List.{List, [], ◌∷◌, ◌++◌, append_assoc, append-nil}
 use native.Mathlib.Omega.{arith}
 use lib.ListN.{length, length-append}
-use Rattle·moves.specs.declared.Turn.{Turn}
-use Rattle·moves.specs.declared.Turn.the-variants.{Passed, Dealt, Refused}
-use Rattle·moves.specs.Answer.{valuesOf}
-use Rattle·records.specs.Reading.{lengthOf}
-use Rattle·records.specs.Writing.{sizeOf}
-use Rattle·records.proofs.Writing.{length-bytesOf}
-use Rattle·outcome.specs.Step.{reportOf}
-use Rattle·promise.specs.History.{Deal, dealOf}
-use Rattle·filed·specs.specs.Filed.{reportsOf}
+use Rattle.moves.specs.declared.Turn.{Turn}
+use Rattle.moves.specs.declared.Turn.TheVariants.{Passed, Dealt, Refused}
+use Rattle.moves.specs.Answer.{values_of}
+use Rattle.records.specs.Reading.{length_of}
+use Rattle.records.specs.Writing.{size_of}
+use Rattle.records.proofs.Writing.{length_bytes_of}
+use Rattle.outcome.specs.Step.{report_of}
+use Rattle.promise.specs.History.{Deal, deal_of}
+use Rattle.filed.specs.Filed.{reports_of}
 
-pub reports-append : (l m : List Deal) → reportsOf (l ++ m) ≡ reportsOf l ++ reportsOf m
-unfolding reportsOf
-reports-append [] m = refl
-reports-append (d ∷ l) m = rw (append-assoc, reports-append l m)
+pub reports_append : (l m : List Deal) → reports_of (l ++ m) ≡ reports_of l ++ reports_of m
+unfolding reports_of
+reports_append [] m = refl
+reports_append (d ∷ l) m = rw (append_assoc, reports_append l m)
 
-pub reports-dealOf : (t : ℕ) (a : Turn) → reportOf t a ≡ reportsOf (dealOf t (valuesOf a))
-unfolding reportOf reportsOf valuesOf
-reports-dealOf t (Passed l v L c o) = refl
-reports-dealOf t (Dealt i n) = rw append-nil
-reports-dealOf t (Refused k) = refl
+pub reports_deal_of : (t : ℕ) (a : Turn) → report_of t a ≡ reports_of (deal_of t (values_of a))
+unfolding report_of reports_of values_of
+reports_deal_of t (Passed l v L c o) = refl
+reports_deal_of t (Dealt i n) = rw append-nil
+reports_deal_of t (Refused k) = refl
 
-pub length-reports : (l : List Deal) → length (reportsOf l) ≡ 12 * length l
-unfolding reportsOf sizeOf lengthOf
-length-reports [] = refl
-length-reports (d ∷ l) =
-    rw (length-append, length-bytesOf) (omega (arith, length-reports l))
+pub length_reports : (l : List Deal) → length (reports_of l) ≡ 12 * length l
+unfolding reports_of size_of length_of
+length_reports [] = refl
+length_reports (d ∷ l) =
+    rw (length-append, length_bytes_of) (omega (arith, length_reports l))

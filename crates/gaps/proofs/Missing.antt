@@ -1,68 +1,69 @@
 -- The gap list is the missing numbers and no others, rising: laws of specs/Missing. Assumes nothing.
-use Prim.Native.Nat.{ℕ, zero, suc, _<_}
-use mathlib.Core.Path.{_≡_, refl}
+use Prim.Native.Nat.{ℕ, zero, suc, ◌<◌}
+use mathlib.Core.Path.{◌≡◌, refl}
 use mathlib.Core.Bool.{Bool, true, false, cond}
-use mathlib.Core.List.{List, [], _∷_, _++_, append-nil, List·Memᴰ, List·Memᴰ·head, List·Memᴰ·not-nil, List·Memᴰ·append-cases, List·Memᴰ·eq-of-singleton, Memᴰ·append-left, Memᴰ·append-right}
-use mathlib.Core.Logic.{⊎-elim}
+use mathlib.Core.List.Memᴰ
+use mathlib.Core.List.{List, [], ◌∷◌, ◌++◌, append-nil, Memᴰ}
+use mathlib.Core.Logic.{⊎_elim}
 use native.Mathlib.Nat.{not-suc-le-zero}
-use native.Mathlib.Decide.{decLt, ℕ-discrete}
+use native.Mathlib.Decide.{dec_lt, ℕ_discrete}
 use native.Mathlib.Omega.{arith}
-use lib.ListN.{length, getD, length-append, List·getD-append}
-use lib.Seq.{getD-at}
-use Rattle·board.specs.declared.Board.{Board}
-use Rattle·gaps·specs.specs.Gaps.{missing, gapsBelow}
-use Rattle·gaps·specs.specs.Missing.{MissingBelow}
+use lib.ListN.{length, get_or, length-append, get_or-append}
+use lib.Seq.{get_or_at}
+use Rattle.board.specs.declared.Board.{Board}
+use Rattle.gaps.specs.Gaps.{missing, gaps_below}
+use Rattle.gaps.specs.Missing.{MissingBelow}
 
 -- a list of numbers below n that rises, and such a list with n behind it
 record Rises (l : List ℕ) (n : ℕ) : Type 0 where
-  below : (i : ℕ) → i < length l → getD l i 0 < n
-  rising : (i j : ℕ) → i < j → j < length l → getD l i 0 < getD l j 0
+  below : (i : ℕ) → i < length l → get_or l i 0 < n
+  rising : (i j : ℕ) → i < j → j < length l → get_or l i 0 < get_or l j 0
 
 module _ {l : List ℕ} {n : ℕ} (h : Rises l n) where
-  below-last : (i : ℕ) → i < length (l ++ (n ∷ [])) → getD (l ++ (n ∷ [])) i 0 < suc n
-  below-last i k = elim (decLt i (length l)) [
-    | yes m ↦ rw (List·getD-append l (n ∷ []) 0 i m) (omega (arith, h .below i m))
-    | no d ↦ rw (getD-at l n [] 0 i (omega (arith, length-append l (n ∷ [])))) (omega arith)
+  below_last : (i : ℕ) → i < length (l ++ (n ∷ [])) → get_or (l ++ (n ∷ [])) i 0 < suc n
+  below_last i k = elim (dec_lt i (length l)) [
+    | yes m ↦ rw (get_or-append l (n ∷ []) 0 i m) (omega (arith, h.below i m))
+    | no d ↦ rw (get_or_at l n [] 0 i (omega (arith, length-append l (n ∷ [])))) (omega arith)
   ]
 
-  rising-last : (i j : ℕ) → i < j → j < length (l ++ (n ∷ [])) → getD (l ++ (n ∷ [])) i 0 < getD (l ++ (n ∷ [])) j 0
-  rising-last i j m k =
+  rising_last : (i j : ℕ) → i < j → j < length (l ++ (n ∷ [])) → get_or (l ++ (n ∷ [])) i 0 < get_or (l ++ (n ∷ [])) j 0
+  rising_last i j m k =
       let before : i < length l = omega (arith, length-append l (n ∷ [])) in
-      elim (decLt j (length l)) [
-        | yes p ↦ rw (List·getD-append l (n ∷ []) 0 i before, List·getD-append l (n ∷ []) 0 j p) (h .rising i j m p)
+      elim (dec_lt j (length l)) [
+        | yes p ↦ rw (get_or-append l (n ∷ []) 0 i before, get_or-append l (n ∷ []) 0 j p) (h.rising i j m p)
         | no d ↦
-            rw (List·getD-append l (n ∷ []) 0 i before, getD-at l n [] 0 j (omega (arith, length-append l (n ∷ [])))) (h .below i before)
+            rw (get_or-append l (n ∷ []) 0 i before, get_or_at l n [] 0 j (omega (arith, length-append l (n ∷ [])))) (h.below i before)
       ]
 
-  rises-cond : (b : Bool) → Rises (l ++ cond b (n ∷ []) []) (suc n)
-  rises-cond true = record { below = below-last; rising = rising-last }
-  rises-cond false = rw append-nil (record { below = λ i k. omega (arith, h .below i k); rising = h .rising })
+  rises_cond : (b : Bool) → Rises (l ++ cond b (n ∷ []) []) (suc n)
+  rises_cond true = record { below = below_last; rising = rising_last }
+  rises_cond false = rw append-nil (record { below = λ i k. omega (arith, h.below i k); rising = h.rising })
 
-held-last : (b : Bool) (n v : ℕ) → List·Memᴰ v (cond b (n ∷ []) []) → (v ≡ n) × (b ≡ true)
-held-last true n v m = (List·Memᴰ·eq-of-singleton m, refl)
-held-last false n v m = absurd (List·Memᴰ·not-nil m)
+held_last : (b : Bool) (n v : ℕ) → Memᴰ v (cond b (n ∷ []) []) → (v ≡ n) × (b ≡ true)
+held_last true n v m = (Memᴰ.eq_of_singleton m, refl)
+held_last false n v m = absurd (Memᴰ.not-nil m)
 
 module _ (w : ℕ) (x : Board) where
-  gaps-hold : (n v : ℕ) → v < n → missing w x v ≡ true → List·Memᴰ v (gapsBelow w x n)
-  unfolding gapsBelow
-  gaps-hold zero v l h = absurd (not-suc-le-zero l)
-  gaps-hold (suc n) v l h = elim (ℕ-discrete v n) [
-    | yes e ↦ rw (← e, h) (Memᴰ·append-right (gapsBelow w x v) (List·Memᴰ·head refl))
-    | no d ↦ Memᴰ·append-left _ (gaps-hold n v (omega arith) h)
+  gaps_hold : (n v : ℕ) → v < n → missing w x v ≡ true → Memᴰ v (gaps_below w x n)
+  unfolding gaps_below
+  gaps_hold zero v l h = absurd (not-suc-le-zero l)
+  gaps_hold (suc n) v l h = elim (ℕ_discrete v n) [
+    | yes e ↦ rw (← e, h) (Memᴰ.append_right (gaps_below w x v) (Memᴰ.head refl))
+    | no d ↦ Memᴰ.append_left _ (gaps_hold n v (omega arith) h)
   ]
 
-  gaps-only : (n v : ℕ) → List·Memᴰ v (gapsBelow w x n) → (v < n) × (missing w x v ≡ true)
-  unfolding gapsBelow
-  gaps-only zero v m = absurd (List·Memᴰ·not-nil m)
-  gaps-only (suc n) v m = ⊎-elim
-      (λ k. let ih = gaps-only n v k in (omega arith, ih .1))
-      (λ k. let last = held-last (missing w x n) n v k in (omega (arith, last .0), rw (last .0) (last .1)))
-      (List·Memᴰ·append-cases (gapsBelow w x n) m)
+  gaps_only : (n v : ℕ) → Memᴰ v (gaps_below w x n) → (v < n) × (missing w x v ≡ true)
+  unfolding gaps_below
+  gaps_only zero v m = absurd (Memᴰ.not-nil m)
+  gaps_only (suc n) v m = ⊎_elim
+      (λ k. let ih = gaps_only n v k in (omega arith, ih.1))
+      (λ k. let last = held_last (missing w x n) n v k in (omega (arith, last.0), rw last.0 last.1))
+      (Memᴰ.append_cases (gaps_below w x n) m)
 
-  gaps-rise : (n : ℕ) → Rises (gapsBelow w x n) n
-  unfolding gapsBelow
-  gaps-rise zero = record { below = λ i l. absurd (not-suc-le-zero l); rising = λ i j k l. absurd (not-suc-le-zero l) }
-  gaps-rise (suc n) = rises-cond (gaps-rise n) (missing w x n)
+  gaps_rise : (n : ℕ) → Rises (gaps_below w x n) n
+  unfolding gaps_below
+  gaps_rise zero = record { below = λ i l. absurd (not-suc-le-zero l); rising = λ i j k l. absurd (not-suc-le-zero l) }
+  gaps_rise (suc n) = rises_cond (gaps_rise n) (missing w x n)
 
-  pub gaps-are : (n : ℕ) → MissingBelow w x n (gapsBelow w x n)
-  gaps-are n = record { holds = gaps-hold n; only = gaps-only n; rising = gaps-rise n .rising }
+  pub gaps_are : (n : ℕ) → MissingBelow w x n (gaps_below w x n)
+  gaps_are n = record { holds = gaps_hold n; only = gaps_only n; rising = (gaps_rise n).rising }

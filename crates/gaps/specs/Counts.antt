@@ -1,29 +1,24 @@
 -- What the loops go by, which are lent the exit counts alone. Definitions only. Assumes nothing.
-use Prim.Native.Nat.{ℕ, _≤_, _<_}
-use mathlib.Core.Path.{_≡_}
-use mathlib.Core.Bool.{cond}
-use mathlib.Core.List.{List, [], _∷_}
-use lib.Dec.{eqb, ltb}
-use lib.ListN.{length, getD}
-use Rattle·order.specs.declared.Filled.{Filled}
-use Rattle·order.specs.Order.{_⟶_, firstOf, filledOf, over}
-use Rattle·board.specs.declared.Board.{Board}
-use Rattle·board.specs.Board.{maxEntered}
+use Rattle.std.specs.Prelude.{ℕ, ◌≤◌, ◌<◌, ◌≡◌, cond, List, [], ◌∷◌, eqb, ltb, length, get_or}
+use Rattle.order.specs.declared.Filled.{Filled}
+use Rattle.order.specs.Order.{◌⟶◌, first_of, filled_of, over}
+use Rattle.board.specs.declared.Board.{Board}
+use Rattle.board.specs.Board.{max_entered}
 
 -- a board of which only the exit counts matter
-abbrev pub ofCounts : List ℕ → Board
-ofCounts counts = record { entered = 0; counts = counts; toggles = []; places = [] }
+abbrev pub of_counts : List ℕ → Board
+of_counts counts = record { entered = 0; counts = counts; toggles = []; places = [] }
 
 -- what a walk over the exits goes by, in a sound record: few exits, small counts
 pub record CanWalk (w : ℕ) (counts : List ℕ) : Type 0 where
   pub some : 0 < w
   pub few : w ≤ 64
-  pub small : (i : ℕ) → getD counts i 0 ≤ maxEntered
+  pub small : (i : ℕ) → get_or counts i 0 ≤ max_entered
 
 -- a list into lent numbers: 17 output room too small
-unfoldable pub roomNo : List ℕ → ℕ → ℕ
-roomNo l room = firstOf ((ltb room (length l) ⟶ 17) ∷ [])
+unfoldable pub room_no : List ℕ → ℕ → ℕ
+room_no l room = first_of ((ltb room (length l) ⟶ 17) ∷ [])
 
 pub record FillIs (l before after : List ℕ) (r : Filled) : Type 0 where
-  pub answer : r ≡ filledOf (roomNo l (length before)) (length l)
-  pub numbers : after ≡ cond (eqb (roomNo l (length before)) 0) (over l before) before
+  pub answer : r ≡ filled_of (room_no l (length before)) (length l)
+  pub numbers : after ≡ cond (eqb (room_no l (length before)) 0) (over l before) before

@@ -1,30 +1,31 @@
 // The gap list of a run: the missing numbers below entered, which is at most 1,000,000 where the record is sound. The list's
 // length is worked out from the shares of the exits, so that a slice that is too short is refused before anything is written; the
 // list is then written in one walk over the numbers.
+#![tactic(auto)]
+
+ghost use Rattle.std.specs.Prelude.{◌≡◌, ◌-◌, ◌≤◌, ◌<◌, length};
+ghost use Rattle.order.specs.Order.{over};
+ghost use Rattle.board.specs.Board.{max_entered};
+ghost use Rattle.rest.specs.Share.{share};
+ghost use Rattle.run.specs.Run.{sound};
+ghost use Rattle.gaps.specs.Gaps.{gaps_below, GapsIs};
+ghost use Rattle.gaps.specs.Counts.{of_counts, CanWalk, FillIs};
+
 use board::EXITS;
 use order::Filled;
 use run::Run;
-ghost use mathlib.Core.Path.{_≡_};
-ghost use Prim.Native.Nat.{_-_, _≤_, _<_};
-ghost use lib.ListN.{length};
-ghost use Rattle·order.specs.Order.{over};
-ghost use Rattle·board.specs.Board.{maxEntered};
-ghost use Rattle·rest.specs.Share.{share};
-ghost use Rattle·run.specs.Run.{sound};
-ghost use Rattle·gaps·specs.specs.Gaps.{gapsBelow, GapsIs};
-ghost use Rattle·gaps·specs.specs.Counts.{ofCounts, CanWalk, FillIs};
 
 // What is left of a, less b; 0 where b is more.
 fn left_of(a: usize, b: usize) -> usize
-    ensures { λ r. ⌜ r ≡ a - b ⌝ }
+    ensures { result ≡ a - b }
 {
     if b < a { a - b } else { 0 }
 }
 
 // How many numbers an exit with this count is short of its share of the numbers below n.
 fn short_of(w: usize, n: usize, exit: usize, count: usize) -> usize
-    requires { ⌜ (0 < w) × (w ≤ 64) × (n ≤ maxEntered) ⌝ }
-    ensures { λ r. ⌜ r ≡ share n exit w - count ⌝ }
+    requires { (0 < w) × (w ≤ 64) × (n ≤ max_entered) }
+    ensures { result ≡ share n exit w - count }
 {
     let due = (left_of(n, exit) + (w - 1)) / w;
     left_of(due, count)
@@ -32,8 +33,8 @@ fn short_of(w: usize, n: usize, exit: usize, count: usize) -> usize
 
 // How many numbers below n are missing.
 fn missing_below(w: usize, counts: &[u32; EXITS], n: usize) -> usize
-    requires { ⌜ CanWalk w (now counts) × (n ≤ maxEntered) ⌝ }
-    ensures { λ r. ⌜ r ≡ length (gapsBelow w (ofCounts (now (counts .entry))) n) ⌝ }
+    requires { CanWalk w counts.now × (n ≤ max_entered) }
+    ensures { result ≡ length (gaps_below w (of_counts counts.now) n) }
 {
     let mut total: usize = 0;
     let mut i: usize = 0;
@@ -46,8 +47,8 @@ fn missing_below(w: usize, counts: &[u32; EXITS], n: usize) -> usize
 
 // The missing numbers below n, rising, in front of what is lent.
 fn write_missing(w: usize, counts: &[u32; EXITS], n: usize, out: &mut [u32])
-    requires { ⌜ CanWalk w (now counts) × (n ≤ maxEntered) × (length (gapsBelow w (ofCounts (now counts)) n) ≤ length (now out)) ⌝ }
-    ensures { λ r. ⌜ now (out .exit) ≡ over (gapsBelow w (ofCounts (now (counts .entry))) n) (now (out .entry)) ⌝ }
+    requires { CanWalk w counts.now × (n ≤ max_entered) × (length (gaps_below w (of_counts counts.now) n) ≤ length out.old) }
+    ensures { out.new ≡ over (gaps_below w (of_counts counts.now) n) out.old }
 {
     let mut at: usize = 0;
     let mut v: usize = 0;
@@ -63,8 +64,8 @@ fn write_missing(w: usize, counts: &[u32; EXITS], n: usize, out: &mut [u32])
 
 // The missing numbers below n, in front of what is lent: 17 where there is no room for them. Who calls has judged the record sound.
 pub fn fill(w: usize, counts: &[u32; EXITS], n: usize, out: &mut [u32]) -> Filled
-    requires { ⌜ CanWalk w (now counts) × (n ≤ maxEntered) ⌝ }
-    ensures { λ r. ⌜ FillIs (gapsBelow w (ofCounts (now (counts .entry))) n) (now (out .entry)) (now (out .exit)) r ⌝ }
+    requires { CanWalk w counts.now × (n ≤ max_entered) }
+    ensures { FillIs (gaps_below w (of_counts counts.now) n) out.old out.new result }
 {
     let filled = missing_below(w, counts, n);
     if out.len() < filled {
@@ -79,7 +80,7 @@ pub fn fill(w: usize, counts: &[u32; EXITS], n: usize, out: &mut [u32]) -> Fille
 
 // The gap list of a run, in front of what is lent: 9, 17.
 pub fn gap_list(run: Run, out: &mut [u32]) -> Filled
-    ensures { λ r. ⌜ GapsIs (sound run) (run .width) (run .board) (now (out .entry)) (now (out .exit)) r ⌝ }
+    ensures { GapsIs (sound run) run.width run.board out.old out.new result }
 {
     let good = run.is_sound();
     if !good {

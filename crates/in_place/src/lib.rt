@@ -1,24 +1,23 @@
 // The calls on a run that is known to be sound, in place: its toggles, its exit counts and the places of its tokens are arrays of
 // numbers, lent to each step, and what is no array goes by value in a frame. The places that the wires feed stand in a table that is
 // filled as the run opens, so that a turn reads one byte of it. Who calls keeps frame and arrays together; no step refuses by 9.
-use board::CELLS;
-use board::EXITS;
-use board::Place;
-use board::TOKENS;
+#![tactic(auto)]
+
+ghost use Rattle.std.specs.Prelude.{◌≡◌, ◌<◌, ◌≤◌, length, get_or};
+ghost use Rattle.board.specs.Board.{free_place};
+ghost use Rattle.in_place.specs.Seats.{seats, Sized, places_in, Seated};
+ghost use Rattle.in_place.specs.Table.{wire_at, Wired, PutRow};
+ghost use Rattle.in_place.specs.Held.{lent, blank, Framed};
+ghost use Rattle.in_place.specs.Steps.{Opens, Enters, Turnable, Turns, CanPass, Passes, CanDeal, Deals};
+
+use board::{CELLS, EXITS, Place, TOKENS};
 use moves::Turn;
-ghost use mathlib.Core.Path.{_≡_};
-ghost use Prim.Native.Nat.{_<_, _≤_};
-ghost use lib.ListN.{length, getD};
-ghost use Rattle·board.specs.Board.{freePlace};
-ghost use Rattle·in_place·specs.specs.Seats.{seats, Sized, placesIn, Seated};
-ghost use Rattle·in_place·specs.specs.Table.{wireAt, Wired, PutRow};
-ghost use Rattle·in_place·specs.specs.Held.{lent, blank, Framed};
-ghost use Rattle·in_place·specs.specs.Steps.{Opens, Enters, Turnable, Turns, CanPass, Passes, CanDeal, Deals};
 
 // The bytes of the table: a row of 64 for each of 36 layers, the most that a build has.
 pub const TABLE: usize = 2304;
 
 // What of a run is no array, with its depth; `within` counts the tokens inside.
+#[derive(Clone, Copy)]
 pub struct Frame {
     pub width: u16,
     pub construction: u16,
@@ -28,11 +27,13 @@ pub struct Frame {
 }
 
 // What an opening or an enter gives: the refusal number, 0 where it was carried out, and the frame after it.
+#[derive(Clone, Copy)]
 pub struct Entering {
     pub refusal: u8,
     pub frame: Frame,
 }
 
+#[derive(Clone, Copy)]
 pub struct Turning {
     pub answer: Turn,
     pub frame: Frame,
@@ -47,8 +48,8 @@ fn place_at<'a>(
     wire: &'a [u16; TOKENS],
     token: u16,
 ) -> Place
-    requires { ⌜ Sized (seats (now inside) (now level) (now wire)) ⌝ }
-    ensures { λ r. ⌜ r ≡ getD (placesIn (seats (now (inside .entry)) (now (level .entry)) (now (wire .entry)))) token freePlace ⌝ }
+    requires { Sized (seats inside.now level.now wire.now) }
+    ensures { result ≡ get_or (places_in (seats inside.now level.now wire.now)) token free_place }
 {
     let at = token as usize;
     if at < TOKENS {
@@ -68,8 +69,8 @@ fn put_place(
     token: u16,
     place: Place,
 )
-    requires { ⌜ (token < 256) × Sized (seats (now inside) (now level) (now wire)) ⌝ }
-    ensures { λ _. ⌜ Seated (seats (now (inside .entry)) (now (level .entry)) (now (wire .entry))) token place (seats (now (inside .exit)) (now (level .exit)) (now (wire .exit))) ⌝ }
+    requires { (token < 256) × Sized (seats inside.old level.old wire.old) }
+    ensures { Seated (seats inside.old level.old wire.old) token place (seats inside.new level.new wire.new) }
 {
     let at = token as usize;
     inside[at] = place.inside;
@@ -80,8 +81,8 @@ fn put_place(
 // ---- the table of the places that the wires feed
 
 fn put_row(table: &mut [u8; TABLE], layer: u16, row: &[u8; network::ROW])
-    requires { ⌜ (layer < 36) × (length (now table) ≡ 2304) ⌝ }
-    ensures { λ _. ⌜ PutRow (now (table .entry)) layer (now (row .entry)) (now (table .exit)) ⌝ }
+    requires { (layer < 36) × (length table.old ≡ 2304) }
+    ensures { PutRow table.old layer row.now table.new }
 {
     let from = (layer as usize) * 64;
     let mut wire: usize = 0;
@@ -92,8 +93,8 @@ fn put_row(table: &mut [u8; TABLE], layer: u16, row: &[u8; network::ROW])
 }
 
 fn wire_up(table: &mut [u8; TABLE], width: u16, construction: u16)
-    requires { ⌜ length (now table) ≡ 2304 ⌝ }
-    ensures { λ _. ⌜ Wired width construction (now (table .exit)) ⌝ }
+    requires { length table.old ≡ 2304 }
+    ensures { Wired width construction table.new }
 {
     let depth = network::depth_of(width, construction);
     let mut layer: u16 = 0;
@@ -105,8 +106,8 @@ fn wire_up(table: &mut [u8; TABLE], width: u16, construction: u16)
 }
 
 fn feeds_at(table: &[u8; TABLE], layer: u16, wire: u16) -> u8
-    requires { ⌜ (layer < 36) × (wire < 64) ⌝ }
-    ensures { λ r. ⌜ r ≡ getD (now (table .entry)) (wireAt layer wire) 0 ⌝ }
+    requires { (layer < 36) × (wire < 64) }
+    ensures { result ≡ get_or table.now (wire_at layer wire) 0 }
 {
     let at = (layer as usize) * 64 + (wire as usize);
     table[at]
@@ -116,7 +117,7 @@ fn feeds_at(table: &[u8; TABLE], layer: u16, wire: u16) -> u8
 
 // The frame before any opening, and after a refused one.
 pub fn no_frame() -> Frame
-    ensures { λ r. ⌜ r ≡ blank ⌝ }
+    ensures { result ≡ blank }
 {
     Frame {
         width: 0,
@@ -129,8 +130,8 @@ pub fn no_frame() -> Frame
 
 // A run opens over arrays in which nothing has moved; refused by 1 and 2.
 pub fn open(table: &mut [u8; TABLE], width: u16, construction: u16) -> Entering
-    requires { ⌜ length (now table) ≡ 2304 ⌝ }
-    ensures { λ r. ⌜ Opens width construction r (now (table .exit)) ⌝ }
+    requires { length table.old ≡ 2304 }
+    ensures { Opens width construction result table.new }
 {
     let refusal = network::open_refusal(width, construction);
     if refusal != 0 {
@@ -160,8 +161,8 @@ pub fn enter(
     token: u16,
     on: u16,
 ) -> Entering
-    requires { ⌜ (frame .entered ≤ 1000000) × Framed frame (seats (now inside) (now level) (now wire)) ⌝ }
-    ensures { λ r. ⌜ Enters frame (seats (now (inside .entry)) (now (level .entry)) (now (wire .entry))) token on r (seats (now (inside .exit)) (now (level .exit)) (now (wire .exit))) ⌝ }
+    requires { (frame.entered ≤ 1000000) × Framed frame (seats inside.old level.old wire.old) }
+    ensures { Enters frame (seats inside.old level.old wire.old) token on result (seats inside.new level.new wire.new) }
 {
     let from = place_at(inside, level, wire, token);
     let refusal = moves::enter_refusal(frame.entered, frame.width, from, token, on);
@@ -202,8 +203,8 @@ fn pass(
     from: Place,
     feeds: u8,
 ) -> Turn
-    requires { ⌜ CanPass (now toggles) (seats (now inside) (now level) (now wire)) token from ⌝ }
-    ensures { λ r. ⌜ Passes width (now (toggles .entry)) (seats (now (inside .entry)) (now (level .entry)) (now (wire .entry))) token feeds r (now (toggles .exit)) (seats (now (inside .exit)) (now (level .exit)) (now (wire .exit))) ⌝ }
+    requires { CanPass toggles.old (seats inside.old level.old wire.old) token from }
+    ensures { Passes width toggles.old (seats inside.old level.old wire.old) token feeds result toggles.new (seats inside.new level.new wire.new) }
 {
     let layer = from.level;
     let next = layer + 1;
@@ -238,8 +239,8 @@ fn deal(
     token: u16,
     exit: u16,
 ) -> Turn
-    requires { ⌜ CanDeal width (now counts) (seats (now inside) (now level) (now wire)) token exit ⌝ }
-    ensures { λ r. ⌜ Deals width (now (counts .entry)) (seats (now (inside .entry)) (now (level .entry)) (now (wire .entry))) token exit r (now (counts .exit)) (seats (now (inside .exit)) (now (level .exit)) (now (wire .exit))) ⌝ }
+    requires { CanDeal width counts.old (seats inside.old level.old wire.old) token exit }
+    ensures { Deals width counts.old (seats inside.old level.old wire.old) token exit result counts.new (seats inside.new level.new wire.new) }
 {
     let count = moves::count_at(counts, exit);
     let number = moves::number_at(width, exit, count);
@@ -261,8 +262,8 @@ pub fn turn(
     wire: &mut [u16; TOKENS],
     token: u16,
 ) -> Turning
-    requires { ⌜ Turnable frame (lent (now table) (now toggles) (now counts) (seats (now inside) (now level) (now wire))) ⌝ }
-    ensures { λ r. ⌜ Turns frame (lent (now (table .entry)) (now (toggles .entry)) (now (counts .entry)) (seats (now (inside .entry)) (now (level .entry)) (now (wire .entry)))) token r (lent (now (table .entry)) (now (toggles .exit)) (now (counts .exit)) (seats (now (inside .exit)) (now (level .exit)) (now (wire .exit)))) ⌝ }
+    requires { Turnable frame (lent table.now toggles.old counts.old (seats inside.old level.old wire.old)) }
+    ensures { Turns frame (lent table.now toggles.old counts.old (seats inside.old level.old wire.old)) token result (lent table.now toggles.new counts.new (seats inside.new level.new wire.new)) }
 {
     let place = place_at(inside, level, wire, token);
     let refusal = moves::turn_refusal(token, place);

@@ -1,14 +1,12 @@
 // The grid of 37 rows of 64 bytes: its rows are copied, put in, and put together. What does not fit is left out: a panel that
 // reaches past the grid is refused in the end, and its places are never read.
-ghost use mathlib.Core.Path.{_≡_};
-ghost use Prim.Native.Nat.{ℕ, _<_, _≤_};
-ghost use lib.ListN.{length, getD};
-ghost use Rattle·network.specs.Rows.{arrayOf};
-ghost use Rattle·leaves·specs.specs.Grid.{byteAt, FitsIs, Put, Linked};
+ghost use Rattle.std.specs.Prelude.{◌≡◌, ℕ, ◌<◌, ◌≤◌, length, get_or};
+ghost use Rattle.network.specs.Rows.{array_of};
+ghost use Rattle.leaves.specs.Grid.{byte_at, FitsIs, Put, Linked};
 
 // A row of the grid, zeros where there is no such row.
 pub fn row_at(grid: &[u8; 2368], row: usize) -> [u8; 64]
-    ensures { λ r. ⌜ (row ≤ 36 → r ≡ arrayOf (byteAt (now (grid .entry)) row) 64) ⌝ }
+    ensures { row ≤ 36 → result ≡ array_of (byte_at grid.now row) 64 }
 {
     let mut out = [0u8; 64];
     if 36 < row {
@@ -24,8 +22,8 @@ pub fn row_at(grid: &[u8; 2368], row: usize) -> [u8; 64]
 
 // The wires in order, 0 to n - 1.
 pub fn in_order(n: usize) -> [u8; 64]
-    requires { ⌜ n ≤ 64 ⌝ }
-    ensures { λ r. ⌜ r ≡ arrayOf (λ v. v) n ⌝ }
+    requires { n ≤ 64 }
+    ensures { result ≡ array_of (λ v. v) n }
 {
     let mut out = [0u8; 64];
     let mut v = 0;
@@ -38,7 +36,7 @@ pub fn in_order(n: usize) -> [u8; 64]
 
 // Do so many wires from a column on lie within row and grid?
 fn fits(row: usize, col: usize, width: usize) -> bool
-    ensures { λ r. ⌜ FitsIs row col width r ⌝ }
+    ensures { FitsIs row col width result }
 {
     if 64 < width {
         return false;
@@ -48,8 +46,8 @@ fn fits(row: usize, col: usize, width: usize) -> bool
 
 // Places that count from 0, into a row from a column on.
 pub fn put_places(grid: &mut [u8; 2368], row: usize, col: usize, places: &[u8])
-    requires { ⌜ (length (now grid) ≡ 2368) × ((v : ℕ) → v < length (now places) → getD (now places) v 0 < length (now places)) ⌝ }
-    ensures { λ _. ⌜ Put row col (now (places .entry)) (now (grid .entry)) (now (grid .exit)) ⌝ }
+    requires { (length grid.old ≡ 2368) × ((v : ℕ) → v < length places.now → get_or places.now v 0 < length places.now) }
+    ensures { Put row col places.now grid.old grid.new }
 {
     let n = places.len();
     let inside = fits(row, col, n);
@@ -73,8 +71,8 @@ pub fn link(
     col: usize,
     width: usize,
 )
-    requires { ⌜ length (now grid) ≡ 2368 ⌝ }
-    ensures { λ _. ⌜ Linked alone exits row col width (now (grid .entry)) (now (grid .exit)) ⌝ }
+    requires { length grid.old ≡ 2368 }
+    ensures { Linked alone exits row col width grid.old grid.new }
 {
     if alone {
         return;

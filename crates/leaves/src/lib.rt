@@ -1,30 +1,29 @@
 // Records without members: one cell, a named network, a cross. Each is read into the grid from a row and a column on.
-ghost use mathlib.Core.Path.{_≡_};
-ghost use Prim.Native.Nat.{_+_, _≤_};
-ghost use lib.ListN.{length, drop};
-ghost use Rattle·network.specs.Widths.{openNo, depthOf};
-ghost use Rattle·records.specs.Fields.{field};
-ghost use Rattle·designs.specs.Panels.{cell, named, cross};
-ghost use Rattle·designs.specs.Leaves.{made, fault, headFault, judged, crossNo, leafOf};
-ghost use Rattle·leaves·specs.specs.declared.Judged.the-variants.{Refused};
-ghost use Rattle·leaves·specs.specs.Grid.{PutPanel};
-ghost use Rattle·leaves·specs.specs.Told.{toldAt, ReadInto};
+#![tactic(auto)]
+
+ghost use Rattle.std.specs.Prelude.{◌≡◌, ◌+◌, ◌≤◌, length, drop};
+ghost use Rattle.network.specs.Widths.{open_no, depth_of};
+ghost use Rattle.records.specs.Fields.{field};
+ghost use Rattle.designs.specs.Panels.{cell, named, cross};
+ghost use Rattle.designs.specs.Leaves.{made, fault, head_fault, judged, cross_no, leaf_of};
+ghost use Rattle.leaves.specs.declared.Judged.TheVariants.{Refused};
+ghost use Rattle.leaves.specs.Grid.{PutPanel};
+ghost use Rattle.leaves.specs.Told.{told_at, ReadInto};
 
 pub mod grid;
 
-use designs::Fault;
-use designs::cross_refusal;
-use grid::in_order;
-use grid::put_places;
-use records::field_of_two;
-use records::present_of;
+use designs::{Fault, cross_refusal};
+use grid::{in_order, put_places};
+use records::{field_of_two, present_of};
 
+#[derive(Clone, Copy)]
 pub struct Size {
     pub width: usize,
     pub depth: usize,
 }
 
 // What a record of a design comes to: it is refused, or its panel stands in the grid.
+#[derive(Clone, Copy)]
 pub enum Judged {
     Refused(Fault),
     Made(Size),
@@ -32,7 +31,7 @@ pub enum Judged {
 
 // The record at an offset is refused, and it is not cut.
 pub fn refused(number: u8, at: usize) -> Judged
-    ensures { λ r. ⌜ r ≡ Refused (fault at number) ⌝ }
+    ensures { result ≡ Refused (fault at number) }
 {
     Judged::Refused(Fault {
         refusal: number,
@@ -43,7 +42,7 @@ pub fn refused(number: u8, at: usize) -> Judged
 
 // The same by its head, with n bytes from its first to the end of its parent.
 pub fn refused_head(number: u8, at: usize, n: usize) -> Judged
-    ensures { λ r. ⌜ r ≡ Refused (headFault at number n) ⌝ }
+    ensures { result ≡ Refused (head_fault at number n) }
 {
     let present = present_of(number, n);
     Judged::Refused(Fault {
@@ -55,7 +54,7 @@ pub fn refused_head(number: u8, at: usize, n: usize) -> Judged
 
 // The record at an offset is refused by its number, or its panel is made.
 pub fn told_at(number: u8, at: usize, size: Size) -> Judged
-    ensures { λ r. ⌜ r ≡ toldAt at number size ⌝ }
+    ensures { result ≡ told_at at number size }
 {
     if number != 0 {
         return refused(number, at);
@@ -64,8 +63,8 @@ pub fn told_at(number: u8, at: usize, size: Size) -> Judged
 }
 
 fn cell(grid: &mut [u8; 2368], row: usize, col: usize) -> Judged
-    requires { ⌜ (length (now grid) ≡ 2368) × (row ≤ 4194240) ⌝ }
-    ensures { λ r. ⌜ ReadInto (made cell) row col (now (grid .entry)) (now (grid .exit)) r ⌝ }
+    requires { (length grid.old ≡ 2368) × (row ≤ 4194240) }
+    ensures { ReadInto (made cell) row col grid.old grid.new result }
 {
     let wires = in_order(2);
     put_places(grid, row, col, &wires[..2]);
@@ -75,8 +74,8 @@ fn cell(grid: &mut [u8; 2368], row: usize, col: usize) -> Judged
 
 // The rows of a network's sheet, and its exits in order.
 fn put_network(grid: &mut [u8; 2368], row: usize, col: usize, width: u16, construction: u16)
-    requires { ⌜ (length (now grid) ≡ 2368) × (row ≤ 4194240) × (openNo width construction ≡ 0) ⌝ }
-    ensures { λ _. ⌜ PutPanel (named width construction) row col (now (grid .entry)) (now (grid .exit)) ⌝ }
+    requires { (length grid.old ≡ 2368) × (row ≤ 4194240) × (open_no width construction ≡ 0) }
+    ensures { PutPanel (named width construction) row col grid.old grid.new }
 {
     let w = width as usize;
     let depth = network::depth_of(width, construction);
@@ -91,8 +90,8 @@ fn put_network(grid: &mut [u8; 2368], row: usize, col: usize, width: u16, constr
 }
 
 fn named(body: &[u8], at: usize, grid: &mut [u8; 2368], row: usize, col: usize) -> Judged
-    requires { ⌜ (length (now grid) ≡ 2368) × (row ≤ 4194240) ⌝ }
-    ensures { λ r. ⌜ ReadInto (judged at (openNo (field 2 (now (body .entry)) 0) (field 2 (now (body .entry)) 2)) (named (field 2 (now (body .entry)) 0) (field 2 (now (body .entry)) 2))) row col (now (grid .entry)) (now (grid .exit)) r ⌝ }
+    requires { (length grid.old ≡ 2368) × (row ≤ 4194240) }
+    ensures { ReadInto (judged at (open_no (field 2 body.now 0) (field 2 body.now 2)) (named (field 2 body.now 0) (field 2 body.now 2))) row col grid.old grid.new result }
 {
     let width = field_of_two(body, 0);
     let construction = field_of_two(body, 2);
@@ -109,8 +108,8 @@ fn named(body: &[u8], at: usize, grid: &mut [u8; 2368], row: usize, col: usize) 
 }
 
 fn cross(body: &[u8], at: usize, grid: &mut [u8; 2368], row: usize, col: usize) -> Judged
-    requires { ⌜ (length (now grid) ≡ 2368) × (1 ≤ length (now body)) ⌝ }
-    ensures { λ r. ⌜ ReadInto (judged at (crossNo (drop 1 (now (body .entry)))) (cross (drop 1 (now (body .entry))))) row col (now (grid .entry)) (now (grid .exit)) r ⌝ }
+    requires { (length grid.old ≡ 2368) × (1 ≤ length body.now) }
+    ensures { ReadInto (judged at (cross_no (drop 1 body.now)) (cross (drop 1 body.now))) row col grid.old grid.new result }
 {
     let places = &body[1..];
     let number = cross_refusal(places);
@@ -126,6 +125,7 @@ fn cross(body: &[u8], at: usize, grid: &mut [u8; 2368], row: usize, col: usize) 
 }
 
 // A record without members, of a kind, with the bytes behind its head.
+#[tactic(auto, unfolding(designs::specs::Leaves::leaf_of))]
 pub fn leaf(
     body: &[u8],
     kind: u16,
@@ -134,8 +134,8 @@ pub fn leaf(
     row: usize,
     col: usize,
 ) -> Judged
-    requires { ⌜ (length (now grid) ≡ 2368) × (row ≤ 4194240) × ((kind ≡ 18 → ⊥) → (kind ≡ 19 → ⊥) → 1 ≤ length (now body)) ⌝ }
-    ensures { λ r. ⌜ ReadInto (leafOf at kind (now (body .entry))) row col (now (grid .entry)) (now (grid .exit)) r ⌝ }
+    requires { (length grid.old ≡ 2368) × (row ≤ 4194240) × ((kind ≡ 18 → ⊥) → (kind ≡ 19 → ⊥) → 1 ≤ length body.now) }
+    ensures { ReadInto (leaf_of at kind body.now) row col grid.old grid.new result }
 {
     match kind {
         18 => cell(grid, row, col),

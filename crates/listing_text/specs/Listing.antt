@@ -1,51 +1,46 @@
 -- What the listing program writes for a schedule (01, "Listing program"), and what a call that gives a text leaves.
 -- Definitions only. Assumes nothing.
-use Prim.Native.Nat.{ℕ, _/_}
-use mathlib.Core.Path.{_≡_}
-use mathlib.Core.Bool.{cond}
-use mathlib.Core.List.{List, [], _∷_, _++_}
-use lib.ListN.{length}
-use lib.Dec.{ltb, eqb}
-use Rattle·order.specs.Order.{_⟶_, firstOf}
-use Rattle·order.specs.Order.{over}
-use Rattle·outcome.specs.declared.Outcome.{Outcome}
-use Rattle·outcome.specs.declared.Outcome.the-variants.{Accepted, Refused}
-use Rattle·outcome.specs.Schedule.{tell}
-use Rattle·outcome.specs.Whole.{runOf}
-use Rattle·listing_text·specs.specs.declared.Listed.{Listed}
-use Rattle·listing_text·specs.specs.Lines.{refusedLine, networkLine, reportLines, restLine}
+use Rattle.std.specs.Prelude.{ℕ, ◌/◌, ◌≡◌, cond, List, [], ◌∷◌, ◌++◌, length, ltb, eqb}
+use Rattle.order.specs.Order.{◌⟶◌, first_of}
+use Rattle.order.specs.Order.{over}
+use Rattle.outcome.specs.declared.Outcome.{Outcome}
+use Rattle.outcome.specs.declared.Outcome.TheVariants.{Accepted, Refused}
+use Rattle.outcome.specs.Schedule.{tell}
+use Rattle.outcome.specs.Whole.{run_of}
+use Rattle.listing_text.specs.declared.Listed.{Listed}
+use Rattle.listing_text.specs.Lines.{refused_line, network_line, report_lines, rest_line}
 
 -- the network, a line for each report of 12 bytes, the entries
-unfoldable pub acceptedText : ℕ → ℕ → ℕ → ℕ → List ℕ → List ℕ
-acceptedText w c e b reports = networkLine w c ++ (reportLines (b / 12) reports 0 ++ restLine e)
+unfoldable pub accepted_text : ℕ → ℕ → ℕ → ℕ → List ℕ → List ℕ
+accepted_text w c e b reports = network_line w c ++ (report_lines (b / 12) reports 0 ++ rest_line e)
 
-unfoldable pub textOf : Outcome → List ℕ → List ℕ
-textOf (Accepted w c e b) reports = acceptedText w c e b reports
-textOf (Refused k n at present) reports = refusedLine k n at
+unfoldable pub text_of : Outcome → List ℕ → List ℕ
+text_of (Accepted w c e b) reports = accepted_text w c e b reports
+text_of (Refused k n at present) reports = refused_line k n at
 
 -- the reports have 65,536 bytes of room, as many as the longest schedule: each report of 12 bytes comes of an enter and a turn
-unfoldable pub listingOf : List ℕ → List ℕ
-listingOf s = textOf (runOf s 65536) (tell s .reports)
+unfoldable pub listing_of : List ℕ → List ℕ
+listing_of s = text_of (run_of s 65536) (tell s).reports
 
 -- ---- a call that gives a text: 17 where the room is smaller than the text; else the text stands in front, and the rest of the
 -- buffer stays
-unfoldable pub listNo : List ℕ → ℕ → ℕ
-listNo text room = firstOf ((ltb room (length text) ⟶ 17) ∷ [])
+unfoldable pub list_no : List ℕ → ℕ → ℕ
+list_no text room = first_of ((ltb room (length text) ⟶ 17) ∷ [])
 
-unfoldable pub listOf : List ℕ → ℕ → Listed
-listOf text room =
+unfoldable pub list_of : List ℕ → ℕ → Listed
+list_of text room =
     record {
-      refusal = listNo text room;
-      bytes = cond (eqb (listNo text room) 0) (length text) 0;
+      refusal = list_no text room;
+      bytes = cond (eqb (list_no text room) 0) (length text) 0;
       wanted = length text;
     }
 
-unfoldable pub listedOf : List ℕ → List ℕ → List ℕ
-listedOf text out = cond (eqb (listNo text (length out)) 0) (over text out) out
+unfoldable pub listed_of : List ℕ → List ℕ → List ℕ
+listed_of text out = cond (eqb (list_no text (length out)) 0) (over text out) out
 
 pub record Lists (text before : List ℕ) (r : Listed) (after : List ℕ) : Type 0 where
-  pub answer : r ≡ listOf text (length before)
-  pub buffer : after ≡ listedOf text before
+  pub answer : r ≡ list_of text (length before)
+  pub buffer : after ≡ listed_of text before
 
 -- the whole text in front of the buffer, and its length
 pub record Whole (text before : List ℕ) (n : ℕ) (after : List ℕ) : Type 0 where

@@ -1,13 +1,16 @@
 // The text that the listing program writes. Each `put` lets its text go into a lent buffer as those of `text` do, and answers the
 // place behind it: on a buffer of no use it so tells how much room the text wants.
-ghost use mathlib.Core.Path.{_≡_};
-ghost use Prim.Native.Nat.{_/_};
-ghost use Rattle·text.specs.Text.{Puts};
-ghost use Rattle·listing_text·specs.specs.Lines.{three, refusedLine, nameOf, networkLine, reportLines, restLine};
-ghost use Rattle·listing_text·specs.specs.Listing.{acceptedText, textOf, listingOf, Lists};
+#![tactic(auto)]
+
+ghost use Rattle.std.specs.Prelude.{◌≡◌, ◌/◌};
+ghost use Rattle.text.specs.Text.{Puts};
+ghost use Rattle.listing_text.specs.Lines.{three, refused_line, name_of, network_line, report_lines, rest_line};
+ghost use Rattle.listing_text.specs.Listing.{accepted_text, text_of, listing_of, Lists};
+
 use outcome::Outcome;
 
 // What a call that gives a text answers: the refusal number, 0 where it was carried out, the bytes filled, and the room that the text wants.
+#[derive(Clone, Copy)]
 pub struct Listed {
     pub refusal: u8,
     pub bytes: usize,
@@ -15,7 +18,7 @@ pub struct Listed {
 }
 
 fn put_three(out: &mut [u8], at: usize, a: usize, b: usize, c: usize) -> usize
-    ensures { λ r. ⌜ Puts (three a b c) at (now (out .entry)) r (now (out .exit)) ⌝ }
+    ensures { Puts (three a b c) at out.old result out.new }
 {
     let second = text::put_number(out, at, a, b' ');
     let third = text::put_number(out, second, b, b' ');
@@ -23,14 +26,14 @@ fn put_three(out: &mut [u8], at: usize, a: usize, b: usize, c: usize) -> usize
 }
 
 pub fn put_refused(out: &mut [u8], number: usize, index: usize, offset: usize) -> usize
-    ensures { λ r. ⌜ Puts (refusedLine number index offset) 0 (now (out .entry)) r (now (out .exit)) ⌝ }
+    ensures { Puts (refused_line number index offset) 0 out.old result out.new }
 {
     let next = text::put_text(out, 0, b"refused ");
     put_three(out, next, number, index, offset)
 }
 
 fn put_name(out: &mut [u8], at: usize, construction: u16) -> usize
-    ensures { λ r. ⌜ Puts (nameOf construction) at (now (out .entry)) r (now (out .exit)) ⌝ }
+    ensures { Puts (name_of construction) at out.old result out.new }
 {
     if construction == 1 {
         return text::put_text(out, at, b"bitonic\n");
@@ -39,7 +42,7 @@ fn put_name(out: &mut [u8], at: usize, construction: u16) -> usize
 }
 
 pub fn put_network(out: &mut [u8], width: usize, construction: u16) -> usize
-    ensures { λ r. ⌜ Puts (networkLine width construction) 0 (now (out .entry)) r (now (out .exit)) ⌝ }
+    ensures { Puts (network_line width construction) 0 out.old result out.new }
 {
     let first = text::put_text(out, 0, b"network ");
     let second = text::put_number(out, first, width, b' ');
@@ -48,7 +51,7 @@ pub fn put_network(out: &mut [u8], width: usize, construction: u16) -> usize
 
 // A line for each report of 12 bytes, of which there are so many bytes.
 fn put_lines(out: &mut [u8], at: usize, reports: &[u8], bytes: usize) -> usize
-    ensures { λ r. ⌜ Puts (reportLines (bytes / 12) (now (reports .entry)) 0) at (now (out .entry)) r (now (out .exit)) ⌝ }
+    ensures { Puts (report_lines (bytes / 12) reports.now 0) at out.old result out.new }
 {
     let mut next = at;
     let mut left = bytes / 12;
@@ -65,7 +68,7 @@ fn put_lines(out: &mut [u8], at: usize, reports: &[u8], bytes: usize) -> usize
 }
 
 pub fn put_rest(out: &mut [u8], at: usize, entries: usize) -> usize
-    ensures { λ r. ⌜ Puts (restLine entries) at (now (out .entry)) r (now (out .exit)) ⌝ }
+    ensures { Puts (rest_line entries) at out.old result out.new }
 {
     let next = text::put_text(out, at, b"rest ");
     text::put_number(out, next, entries, b'\n')
@@ -79,7 +82,7 @@ fn put_accepted(
     bytes: usize,
     reports: &[u8],
 ) -> usize
-    ensures { λ r. ⌜ Puts (acceptedText width construction entries bytes (now (reports .entry))) 0 (now (out .entry)) r (now (out .exit)) ⌝ }
+    ensures { Puts (accepted_text width construction entries bytes reports.now) 0 out.old result out.new }
 {
     let first = put_network(out, width as usize, construction);
     let second = put_lines(out, first, reports, bytes);
@@ -88,7 +91,7 @@ fn put_accepted(
 
 // The text of an outcome, whose reports stand in front of `reports`.
 fn put_outcome(out: &mut [u8], outcome: Outcome, reports: &[u8]) -> usize
-    ensures { λ r. ⌜ Puts (textOf outcome (now (reports .entry))) 0 (now (out .entry)) r (now (out .exit)) ⌝ }
+    ensures { Puts (text_of outcome reports.now) 0 out.old result out.new }
 {
     match outcome {
         Outcome::Accepted {
@@ -108,7 +111,7 @@ fn put_outcome(out: &mut [u8], outcome: Outcome, reports: &[u8]) -> usize
 
 // The listing of a schedule, where there is room for it; else `out` stays, and the answer says how much is wanted.
 pub fn listing(bytes: &[u8], out: &mut [u8]) -> Listed
-    ensures { λ r. ⌜ Lists (listingOf (now (bytes .entry))) (now (out .entry)) r (now (out .exit)) ⌝ }
+    ensures { Lists (listing_of bytes.now) out.old result out.new }
 {
     let mut reports = [0u8; outcome::MAX_BYTES];
     let outcome = schedule::run(bytes, &mut reports);

@@ -1,8 +1,7 @@
 -- A turn's answer: the document's number and values for each case (01, "A run"). Definitions only. Assumes nothing.
-use Prim.Native.Nat.{ℕ}
-use mathlib.Core.Bool.{Bool, true, false}
-use Rattle·moves·specs.specs.declared.Turn.{Turn}
-use Rattle·moves·specs.specs.declared.Turn.the-variants.{Passed, Dealt, Refused}
+use Rattle.std.specs.Prelude.{ℕ, Bool, true, false}
+use Rattle.moves.specs.declared.Turn.{Turn}
+use Rattle.moves.specs.declared.Turn.TheVariants.{Passed, Dealt, Refused}
 
 -- refusal: its number, 0 where the turn was carried out; passed: whether a cell was passed, and then the new level and wire, and
 -- the cell by its layer, its number in the layer and the outlet taken, 0 the top; dealt: whether a number was dealt, and then the
@@ -19,10 +18,10 @@ pub record Values : Type 0 where
   pub exit : ℕ
   pub number : ℕ
 
-unfoldable pub valuesOf : Turn → Values
-valuesOf (Passed l v L c s) =
+unfoldable pub values_of : Turn → Values
+values_of (Passed l v L c s) =
     record { refusal = 0; passed = true; level = l; wire = v; layer = L; cell = c; outlet = s; dealt = false; exit = 0; number = 0 }
-valuesOf (Dealt i n) =
+values_of (Dealt i n) =
     record { refusal = 0; passed = false; level = 0; wire = 0; layer = 0; cell = 0; outlet = 0; dealt = true; exit = i; number = n }
-valuesOf (Refused n) =
+values_of (Refused n) =
     record { refusal = n; passed = false; level = 0; wire = 0; layer = 0; cell = 0; outlet = 0; dealt = false; exit = 0; number = 0 }

@@ -1,11 +1,7 @@
 -- The row of a layer and the sheet, as bytes (01, "Wiring"). Definitions only. Assumes nothing.
-use Prim.Native.Nat.{ℕ, zero, suc, _-_}
-use mathlib.Core.Bool.{cond}
-use mathlib.Core.List.{List, [], _∷_, _++_}
-use lib.Dec.{ltb}
-use lib.ListN.{replicate}
-use Rattle·network·specs.specs.Widths.{levels, depthOf}
-use Rattle·network·specs.specs.Wiring.{place}
+use Rattle.std.specs.Prelude.{ℕ, zero, suc, ◌-◌, cond, List, [], ◌∷◌, ◌++◌, ltb, replicate}
+use Rattle.network.specs.Widths.{levels, depth_of}
+use Rattle.network.specs.Wiring.{place}
 
 -- f 0, f 1, .., n of them
 unfoldable pub tabulate : (ℕ → ℕ) → ℕ → List ℕ
@@ -18,20 +14,20 @@ rows f w zero = []
 rows f w (suc n) = rows f w n ++ tabulate (f n) w
 
 -- the place that wire v of layer L feeds, in the network of width w and construction c
-unfoldable pub placeOf : ℕ → ℕ → ℕ → ℕ → ℕ
-placeOf w c L v = place c (levels w) L v
+unfoldable pub place_of : ℕ → ℕ → ℕ → ℕ → ℕ
+place_of w c L v = place c (levels w) L v
 
 -- the row of layer L, one byte for each wire; no bytes where there is no such layer
-unfoldable pub rowOf : ℕ → ℕ → ℕ → List ℕ
-rowOf w c L = cond (ltb L (depthOf w c)) (tabulate (placeOf w c L) w) []
+unfoldable pub row_of : ℕ → ℕ → ℕ → List ℕ
+row_of w c L = cond (ltb L (depth_of w c)) (tabulate (place_of w c L) w) []
 
 -- a row f of n wires in an array of 64 bytes, zeros after it
-unfoldable pub arrayOf : (ℕ → ℕ) → ℕ → List ℕ
-arrayOf f n = tabulate f n ++ replicate (64 - n) 0
+unfoldable pub array_of : (ℕ → ℕ) → ℕ → List ℕ
+array_of f n = tabulate f n ++ replicate (64 - n) 0
 
-unfoldable pub rowArray : ℕ → ℕ → ℕ → List ℕ
-rowArray w c L = cond (ltb L (depthOf w c)) (arrayOf (placeOf w c L) w) (arrayOf (placeOf w c L) 0)
+unfoldable pub row_array : ℕ → ℕ → ℕ → List ℕ
+row_array w c L = cond (ltb L (depth_of w c)) (array_of (place_of w c L) w) (array_of (place_of w c L) 0)
 
 -- the sheet: the rows in layer order
-unfoldable pub sheetOf : ℕ → ℕ → List ℕ
-sheetOf w c = rows (placeOf w c) w (depthOf w c)
+unfoldable pub sheet_of : ℕ → ℕ → List ℕ
+sheet_of w c = rows (place_of w c) w (depth_of w c)

@@ -1,13 +1,11 @@
 // The wiring of both builds: allowed widths and constructions, depth, the row of a layer, and the place of one wire by itself.
 // Every public call answers every argument: a width that is not allowed has no layers, and a layer that is not there no row.
-ghost use mathlib.Core.Path.{_≡_};
-ghost use Prim.Native.Nat.{ℕ, _+_, _*_, _^_, _≤_, _<_};
-ghost use mathlib.Core.Bool.{cond};
-ghost use lib.Dec.{eqb};
-ghost use lib.ListN.{getD};
-ghost use Rattle·network·specs.specs.Widths.{widthOk, constructionOk, openNo, levels, depth, depthB, depthOf};
-ghost use Rattle·network·specs.specs.Wiring.{fedOf, feedAt, lastAt, part, bitonic, place};
-ghost use Rattle·network·specs.specs.Rows.{placeOf, arrayOf, rowArray};
+#![tactic(auto)]
+
+ghost use Rattle.std.specs.Prelude.{◌≡◌, ℕ, ◌+◌, ◌*◌, ◌^◌, ◌≤◌, ◌<◌, cond, eqb, get_or};
+ghost use Rattle.network.specs.Widths.{width_ok, construction_ok, open_no, levels, depth, depth_b, depth_of};
+ghost use Rattle.network.specs.Wiring.{fed_of, feed_at, last_at, part, bitonic, place};
+ghost use Rattle.network.specs.Rows.{place_of, array_of, row_array};
 
 // ---- limits and numbers of the document
 
@@ -21,6 +19,7 @@ pub const PERIODIC: u16 = 2;
 pub const ROW: usize = MAX_WIDTH as usize;
 
 // A layer before two networks of half the width.
+#[derive(Clone, Copy)]
 pub enum Feed {
     Beside,
     Merger,
@@ -28,6 +27,7 @@ pub enum Feed {
 }
 
 // Which of the two a wire goes to, and to which of its wires.
+#[derive(Clone, Copy)]
 pub struct Fed {
     pub second: bool,
     pub wire: usize,
@@ -36,7 +36,7 @@ pub struct Fed {
 // ---- widths and constructions
 
 pub fn width_ok(width: u16) -> bool
-    ensures { λ r. ⌜ r ≡ widthOk width ⌝ }
+    ensures { result ≡ width_ok width }
 {
     (width == 1)
         | (width == 2)
@@ -48,14 +48,14 @@ pub fn width_ok(width: u16) -> bool
 }
 
 pub fn construction_ok(construction: u16) -> bool
-    ensures { λ r. ⌜ r ≡ constructionOk construction ⌝ }
+    ensures { result ≡ construction_ok construction }
 {
     (construction == BITONIC) | (construction == PERIODIC)
 }
 
 // Why a width and a construction are refused: 1, 2, or 0 for neither.
 pub fn open_refusal(width: u16, construction: u16) -> u8
-    ensures { λ r. ⌜ r ≡ openNo width construction ⌝ }
+    ensures { result ≡ open_no width construction }
 {
     let wide = width_ok(width);
     if !wide {
@@ -70,7 +70,7 @@ pub fn open_refusal(width: u16, construction: u16) -> u8
 
 // The k of a width w = 2^k, and 0 where the width is not allowed.
 fn levels_of(width: u16) -> usize
-    ensures { λ r. ⌜ r ≡ levels width ⌝ }
+    ensures { result ≡ levels width }
 {
     match width {
         2 => 1,
@@ -84,14 +84,14 @@ fn levels_of(width: u16) -> usize
 }
 
 fn bitonic_depth(k: usize) -> usize
-    requires { ⌜ k ≤ 6 ⌝ }
-    ensures { λ r. ⌜ r ≡ depthB k ⌝ }
+    requires { k ≤ 6 }
+    ensures { result ≡ depth_b k }
 {
     k * (k + 1) / 2
 }
 
 pub fn depth_of(width: u16, construction: u16) -> u16
-    ensures { λ r. ⌜ r ≡ depthOf width construction ⌝ }
+    ensures { result ≡ depth_of width construction }
 {
     let k = levels_of(width);
     if construction == BITONIC {
@@ -104,8 +104,8 @@ pub fn depth_of(width: u16, construction: u16) -> u16
 
 // Of a layer before two networks of width h, which of them takes wire v; a number that is no wire of theirs is answered too.
 fn fed_by(feed: Feed, h: usize, v: usize) -> Fed
-    requires { ⌜ (h ≤ 32) × (v ≤ 65535) ⌝ }
-    ensures { λ r. ⌜ r ≡ fedOf feed h v ⌝ }
+    requires { (h ≤ 32) × (v ≤ 65535) }
+    ensures { result ≡ fed_of feed h v }
 {
     match feed {
         Feed::Beside => {
@@ -131,8 +131,8 @@ fn fed_by(feed: Feed, h: usize, v: usize) -> Fed
 
 // The merger's feed: the upper half swaps the two.
 fn merged(h: usize, v: usize) -> Fed
-    requires { ⌜ (h ≤ 32) × (v ≤ 65535) ⌝ }
-    ensures { λ r. ⌜ r ≡ fedOf Feed.Merger h v ⌝ }
+    requires { (h ≤ 32) × (v ≤ 65535) }
+    ensures { result ≡ fed_of Feed.Merger h v }
 {
     if v < h {
         return Fed {
@@ -150,8 +150,8 @@ fn merged(h: usize, v: usize) -> Fed
 
 // The place that wire v feeds, by the row of half the width.
 fn fed_place(feed: Feed, h: usize, inner: &[u8; ROW], v: usize) -> u8
-    requires { ⌜ (h ≤ 32) × (v < 2 * h) × ((i : ℕ) → i < h → getD (now inner) i 0 < h) ⌝ }
-    ensures { λ r. ⌜ r ≡ feedAt feed h (λ i. getD (now (inner .entry)) i 0) v ⌝ }
+    requires { (h ≤ 32) × (v < 2 * h) × ((i : ℕ) → i < h → get_or inner.now i 0 < h) }
+    ensures { result ≡ feed_at feed h (λ i. get_or inner.now i 0) v }
 {
     let to = fed_by(feed, h, v);
     let at = to.wire;
@@ -161,8 +161,8 @@ fn fed_place(feed: Feed, h: usize, inner: &[u8; ROW], v: usize) -> u8
 
 // The row of such a layer.
 fn feed_row(feed: Feed, h: usize, inner: [u8; ROW]) -> [u8; ROW]
-    requires { ⌜ (h ≤ 32) × ((i : ℕ) → i < h → getD inner i 0 < h) ⌝ }
-    ensures { λ r. ⌜ r ≡ arrayOf (feedAt feed h (λ i. getD inner i 0)) (2 * h) ⌝ }
+    requires { (h ≤ 32) × ((i : ℕ) → i < h → get_or inner i 0 < h) }
+    ensures { result ≡ array_of (feed_at feed h (λ i. get_or inner i 0)) (2 * h) }
 {
     let mut out = [0u8; ROW];
     let mut v = 0;
@@ -175,15 +175,15 @@ fn feed_row(feed: Feed, h: usize, inner: [u8; ROW]) -> [u8; ROW]
 
 // The place that wire v feeds in the last layer of a merger or a block of width 2h.
 fn last_place(h: usize, v: usize) -> usize
-    requires { ⌜ v ≤ 65535 ⌝ }
-    ensures { λ r. ⌜ r ≡ lastAt h v ⌝ }
+    requires { v ≤ 65535 }
+    ensures { result ≡ last_at h v }
 {
     if v < h { 2 * v } else { 2 * (v - h) + 1 }
 }
 
 fn last_row(h: usize) -> [u8; ROW]
-    requires { ⌜ h ≤ 32 ⌝ }
-    ensures { λ r. ⌜ r ≡ arrayOf (lastAt h) (2 * h) ⌝ }
+    requires { h ≤ 32 }
+    ensures { result ≡ array_of (last_at h) (2 * h) }
 {
     let mut out = [0u8; ROW];
     let mut v = 0;
@@ -196,7 +196,7 @@ fn last_row(h: usize) -> [u8; ROW]
 
 // The feed of a layer: the part's own at its first layer, side by side after that.
 fn feed_at(feed: Feed, layer: usize) -> Feed
-    ensures { λ r. ⌜ r ≡ cond (eqb layer 0) feed Feed.Beside ⌝ }
+    ensures { result ≡ cond (eqb layer 0) feed Feed.Beside }
 {
     if layer == 0 {
         return feed;
@@ -206,8 +206,8 @@ fn feed_at(feed: Feed, layer: usize) -> Feed
 
 // The row of a layer of MERGER[w] or of BLOCK[w], w = 2^k, by that of half the width.
 fn part_row(feed: Feed, k: usize, w: usize, layer: usize) -> [u8; ROW]
-    requires { ⌜ (k ≤ 6) × (w ≡ 2 ^ k) × (layer < k) ⌝ }
-    ensures { λ r. ⌜ r ≡ arrayOf (part feed k layer) w ⌝ }
+    requires { (k ≤ 6) × (w ≡ 2 ^ k) × (layer < k) }
+    ensures { result ≡ array_of (part feed k layer) w }
 {
     let h = w / 2;
     if layer + 1 == k {
@@ -219,8 +219,8 @@ fn part_row(feed: Feed, k: usize, w: usize, layer: usize) -> [u8; ROW]
 
 // The row of a layer of BITONIC[w], w = 2^k, by that of half the width.
 fn bitonic_row(k: usize, w: usize, layer: usize) -> [u8; ROW]
-    requires { ⌜ (k ≤ 6) × (w ≡ 2 ^ k) × (layer < depthB k) ⌝ }
-    ensures { λ r. ⌜ r ≡ arrayOf (bitonic k layer) w ⌝ }
+    requires { (k ≤ 6) × (w ≡ 2 ^ k) × (layer < depth_b k) }
+    ensures { result ≡ array_of (bitonic k layer) w }
 {
     let before = bitonic_depth(k - 1);
     if layer < before {
@@ -233,8 +233,8 @@ fn bitonic_row(k: usize, w: usize, layer: usize) -> [u8; ROW]
 
 // The row of a layer of either construction.
 fn built_row(construction: u16, k: usize, w: usize, layer: usize) -> [u8; ROW]
-    requires { ⌜ (k ≤ 6) × (w ≡ 2 ^ k) × (layer < depth construction k) ⌝ }
-    ensures { λ r. ⌜ r ≡ arrayOf (place construction k layer) w ⌝ }
+    requires { (k ≤ 6) × (w ≡ 2 ^ k) × (layer < depth construction k) }
+    ensures { result ≡ array_of (place construction k layer) w }
 {
     if construction == BITONIC {
         return bitonic_row(k, w, layer);
@@ -244,7 +244,7 @@ fn built_row(construction: u16, k: usize, w: usize, layer: usize) -> [u8; ROW]
 
 // The row of a layer, zeros after it; zeros alone where there is no such layer.
 pub fn row(width: u16, construction: u16, layer: u16) -> [u8; ROW]
-    ensures { λ r. ⌜ r ≡ rowArray width construction layer ⌝ }
+    ensures { result ≡ row_array width construction layer }
 {
     if layer < depth_of(width, construction) {
         let k = levels_of(width);
@@ -257,16 +257,16 @@ pub fn row(width: u16, construction: u16, layer: u16) -> [u8; ROW]
 
 // The place that a wire feeds, by that of half the width: past the first half's where the wire goes to the second.
 fn past(h: usize, second: bool, x: usize) -> usize
-    requires { ⌜ (h ≤ 32) × (x ≤ 200000) ⌝ }
-    ensures { λ r. ⌜ r ≡ cond second (h + x) x ⌝ }
+    requires { (h ≤ 32) × (x ≤ 200000) }
+    ensures { result ≡ cond second (h + x) x }
 {
     if second { h + x } else { x }
 }
 
 // The place of wire v in a layer of MERGER[w] or of BLOCK[w], w = 2^k.
 fn part_place(feed: Feed, k: usize, w: usize, layer: usize, v: usize) -> usize
-    requires { ⌜ (k ≤ 6) × (w ≡ 2 ^ k) × (layer ≤ 65535) × (v ≤ 65535) ⌝ }
-    ensures { λ r. ⌜ r ≡ part feed k layer v ⌝ }
+    requires { (k ≤ 6) × (w ≡ 2 ^ k) × (layer ≤ 65535) × (v ≤ 65535) }
+    ensures { result ≡ part feed k layer v }
 {
     if k == 0 {
         return v;
@@ -282,8 +282,8 @@ fn part_place(feed: Feed, k: usize, w: usize, layer: usize, v: usize) -> usize
 
 // The place of wire v in a layer of BITONIC[w], w = 2^k.
 fn bitonic_place(k: usize, w: usize, layer: usize, v: usize) -> usize
-    requires { ⌜ (k ≤ 6) × (w ≡ 2 ^ k) × (layer ≤ 65535) × (v ≤ 65535) ⌝ }
-    ensures { λ r. ⌜ r ≡ bitonic k layer v ⌝ }
+    requires { (k ≤ 6) × (w ≡ 2 ^ k) × (layer ≤ 65535) × (v ≤ 65535) }
+    ensures { result ≡ bitonic k layer v }
 {
     if k == 0 {
         return v;
@@ -300,8 +300,8 @@ fn bitonic_place(k: usize, w: usize, layer: usize, v: usize) -> usize
 
 // The place of wire v in a layer of either construction.
 fn built_place(construction: u16, k: usize, w: usize, layer: usize, v: usize) -> usize
-    requires { ⌜ (0 < k) × (k ≤ 6) × (w ≡ 2 ^ k) × (layer ≤ 65535) × (v ≤ 65535) ⌝ }
-    ensures { λ r. ⌜ r ≡ place construction k layer v ⌝ }
+    requires { (0 < k) × (k ≤ 6) × (w ≡ 2 ^ k) × (layer ≤ 65535) × (v ≤ 65535) }
+    ensures { result ≡ place construction k layer v }
 {
     if construction == BITONIC {
         return bitonic_place(k, w, layer, v);
@@ -311,7 +311,7 @@ fn built_place(construction: u16, k: usize, w: usize, layer: usize, v: usize) ->
 
 // The place that a wire feeds in a layer. A width that is not allowed has no layers, and its wires go straight on.
 pub fn place_of(width: u16, construction: u16, layer: u16, wire: u16) -> u32
-    ensures { λ r. ⌜ r ≡ placeOf width construction layer wire ⌝ }
+    ensures { result ≡ place_of width construction layer wire }
 {
     let k = levels_of(width);
     if k == 0 {

@@ -1,8 +1,10 @@
 // What a schedule comes to: definitions and laws on its bytes, no code. Running one is `schedule`.
+#![tactic(auto)]
 
 // The bytes of the longest schedule.
 pub const MAX_BYTES: usize = 65_536;
 
+#[derive(Clone, Copy)]
 pub enum Outcome {
     // Width, construction, entries, and the bytes of the reports.
     Accepted {

@@ -1,18 +1,18 @@
 -- The worked cases, by computing: `cases`. Assumes nothing.
 use mathlib.Core.Path.{refl}
-use Rattle·order.specs.Order.{firstOf}
-use Rattle·network.specs.Widths.{widthOk, constructionOk, openNo, levels, depthOf}
-use Rattle·board.specs.Board.{freshBoard, placeAt, countAt}
-use Rattle·board.specs.Sound.{all, sumOf, fewEntered, placesOk, countsBeyond, togglesBeyond, dealtSum, insideSum, addsUp, soundBoard}
-use Rattle·moves.specs.Enter.{enterNo, entering, enterWith}
-use Rattle·run.specs.Run.{fresh, openOf, depthIn, sound, enterOf}
-use Rattle·gaps.specs.Gaps.{missing, gapsBelow, gapsOf}
-use Rattle·promise.specs.History.{callOf, callsOf, callsBy, history}
-use Rattle·outstanding·specs.specs.Cases.{unreached, Cases}
+use Rattle.order.specs.Order.{first_of}
+use Rattle.network.specs.Widths.{width_ok, construction_ok, open_no, levels, depth_of}
+use Rattle.board.specs.Board.{fresh_board, place_at, count_at}
+use Rattle.board.specs.Sound.{all, sum_of, few_entered, places_ok, counts_beyond, toggles_beyond, dealt_sum, inside_sum, adds_up, sound_board}
+use Rattle.moves.specs.Enter.{enter_no, entering, enter_with}
+use Rattle.run.specs.Run.{fresh, open_of, depth_in, sound, enter_of}
+use Rattle.gaps.specs.Gaps.{missing, gaps_below, gaps_of}
+use Rattle.promise.specs.History.{call_of, calls_of, calls_by, history}
+use Rattle.outstanding.specs.Cases.{unreached, Cases}
 
 pub cases : Cases
 unfolding
-    unreached gapsOf gapsBelow missing history callsOf callsBy callOf openOf fresh depthIn sound enterOf enterNo entering enterWith all sumOf
-    fewEntered placesOk countsBeyond togglesBeyond dealtSum insideSum addsUp soundBoard freshBoard placeAt countAt widthOk
-    constructionOk openNo levels depthOf firstOf
-cases = record { only-one = refl; served = refl; none-inside = refl; four-listed = refl }
+    unreached gaps_of gaps_below missing history calls_of calls_by call_of open_of fresh depth_in sound enter_of enter_no entering enter_with all sum_of
+    few_entered places_ok counts_beyond toggles_beyond dealt_sum inside_sum adds_up sound_board fresh_board place_at count_at width_ok
+    construction_ok open_no levels depth_of first_of
+cases = record { only_one = refl; served = refl; none_inside = refl; four_listed = refl }

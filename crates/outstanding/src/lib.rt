@@ -1,1 +1,2 @@
 // What the gap list tells of every history: statements and proofs, no code.
+#![tactic(auto)]

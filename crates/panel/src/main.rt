@@ -1,24 +1,26 @@
 // The panel program: reads a design from standard input and writes its feed sheet, or why it is refused, to standard output. It
 // stops reading behind byte 65,537: a design is one record of at most 65,535, and whatever follows is refused alike.
-ghost use mathlib.Core.Path.{_≡_};
-ghost use Prim.Native.Nat.{_≤_};
-ghost use lib.ListN.{length};
-ghost use Rattle·listing_text.specs.Listing.{Whole};
-ghost use Rattle·panel_text.specs.Panel.{panelOf};
+#![tactic(auto)]
+
+ghost use Rattle.std.specs.Prelude.{◌≡◌, ◌≤◌, length};
+ghost use Rattle.listing_text.specs.Listing.{Whole};
+ghost use Rattle.panel_text.specs.Panel.{panel_of};
+
+use std::io;
 
 // Fills the text into a buffer that has room for every one, and answers its length.
 fn print_all(design: &[u8], out: &mut [u8]) -> usize
-    requires { ⌜ 50000 ≤ length (now out) ⌝ }
-    ensures { λ r. ⌜ Whole (panelOf (now (design .entry))) (now (out .entry)) r (now (out .exit)) ⌝ }
+    requires { 50000 ≤ length out.old }
+    ensures { Whole (panel_of design.now) out.old result out.new }
 {
     let printed = panel_text::panel(design, out);
     printed.bytes
 }
 
-fn main() {
-    let mut input = [0u8; 65537];
-    let n = io::read_full(0, &mut input);
-    let mut out = [0u8; 50000];
+fn main(rt: HostRuntime) -> io::Result<()> {
+    let mut input: [u8; 65537] = streams::zeros();
+    let n = streams::read_full(&mut rt.stdin(), &mut input)?;
+    let mut out: [u8; 50000] = streams::zeros();
     let filled = print_all(&input[..n], &mut out);
-    io::write_all(1, &out[..filled]);
+    rt.write_all(&out[..filled])
 }

@@ -1,95 +1,95 @@
 -- Laws of a design's whole text. In order: the most bytes; what the reader answers gives the text. Assumes nothing.
-use Prim.Native.Nat.{ℕ, _+_, _*_, _^_, _≤_, _<_}
-use mathlib.Core.Path.{_≡_, refl, sym, _∙_}
-use mathlib.Core.List.{List, _++_}
+use Prim.Native.Nat.{ℕ, ◌+◌, ◌^◌, ◌≤◌, ◌<◌}
+use mathlib.Core.Path.{◌≡◌, refl, ◌∙◌}
+use mathlib.Core.List.{List, ◌++◌}
 use native.Mathlib.Omega.{arith}
 use native.Mathlib.Nat.{mul-le-mul}
 use lib.ListN.{length, take, drop, length-append}
-use lib.Seq.{take-append-le, take-all}
-use borrow.Author.Tests.{le-ltb, ne-eqb}
-use Rattle·order.specs.Order.{firstOf, over}
-use Rattle·network.proofs.Rows.{length-rows}
-use Rattle·designs.specs.Panels.{Panel, feedLength, feedSheet}
-use Rattle·designs.specs.Leaves.{Read, refused, made}
-use Rattle·designs.specs.Designs.{designOf}
-use Rattle·feed_sheet.proofs.Sheet.{Within}
-use Rattle·designs.proofs.Fair.{design-fair}
-use Rattle·panels.specs.declared.Answer.{Answer}
-use Rattle·panels.specs.Answers.{roomNo, answerOf, sheetAfter, DesignRead}
-use Rattle·text.specs.Text.{letters, stored, Puts}
-use Rattle·text.proofs.Numbers.{length-decimal}
-use Rattle·listing_text.proofs.Whole.{text-wanted}
-use Rattle·panel_text·specs.specs.Panel.{twoLine, refusedText, sheetText, textOf, panelOf, answerText}
-use Rattle·panel_text·proofs.proofs.Places.{length-places}
+use lib.Seq.{take-append-le, take_all}
+use borrow.Author.Tests.{le-ltb, ne_eqb}
+use Rattle.order.specs.Order.{first_of, over}
+use Rattle.network.proofs.Rows.{length_rows}
+use Rattle.designs.specs.Panels.{Panel, feed_length, feed_sheet}
+use Rattle.designs.specs.Leaves.{Read, refused, made}
+use Rattle.designs.specs.Designs.{design_of}
+use Rattle.feed_sheet.proofs.Sheet.{Within}
+use Rattle.designs.proofs.Fair.{design_fair}
+use Rattle.panels.specs.declared.Answer.{Answer}
+use Rattle.panels.specs.Answers.{room_no, answer_of, sheet_after, DesignRead}
+use Rattle.text.specs.Text.{letters, stored, Puts}
+use Rattle.text.proofs.Numbers.{length_decimal}
+use Rattle.listing_text.proofs.Whole.{text_wanted}
+use Rattle.panel_text.specs.Panel.{two_line, refused_text, sheet_text, text_of, panel_of, answer_text}
+use Rattle.panel_text.proofs.Places.{length_places}
 
 -- ---- the most bytes: 37 rows of 64 places
-length-two : (word : List ℕ) (a b : ℕ) → length (twoLine word a b) ≤ length word + 42
-unfolding twoLine letters
-length-two word a b = simp length-append (omega (arith, length-decimal a, length-decimal b))
+length_two : (word : List ℕ) (a b : ℕ) → length (two_line word a b) ≤ length word + 42
+unfolding two_line letters
+length_two word a b = simp length-append (omega (arith, length_decimal a, length_decimal b))
 
-length-feed : (p : Panel) → length (feedSheet p) ≡ feedLength p
-unfolding feedSheet
-length-feed p = length-rows (p .place) (p .width) (p .depth + 1)
+length_feed : (p : Panel) → length (feed_sheet p) ≡ feed_length p
+unfolding feed_sheet
+length_feed p = length_rows p.place p.width (p.depth + 1)
 
-few-places : (p : Panel) → Within (p .width) (p .depth) → feedLength p ≤ 2368
-few-places p f = mul-le-mul {n₁ = p .depth + 1} {m₁ = p .width} {n₂ = 37} {m₂ = 64} (omega (arith, f .deep)) (f .wide)
+few_places : (p : Panel) → Within p.width p.depth → feed_length p ≤ 2368
+few_places p f = mul-le-mul {n₁ = p.depth + 1} {m₁ = p.width} {n₂ = 37} {m₂ = 64} (omega (arith, f.deep)) f.wide
 
-text-most : (x : Read) → ((p : Panel) → x ≡ made p → Within (p .width) (p .depth)) → length (textOf x) ≤ 50000
-unfolding textOf refusedText sheetText letters
-text-most (refused x) fair = omega (arith, length-two (letters "refused ") (x .refusal) (x .offset))
-text-most (made p) fair =
+text_most : (x : Read) → ((p : Panel) → x ≡ made p → Within p.width p.depth) → length (text_of x) ≤ 50000
+unfolding text_of refused_text sheet_text letters
+text_most (refused x) fair = omega (arith, length_two (letters "refused ") x.refusal x.offset)
+text_most (made p) fair =
     simp length-append
-    (omega (arith, length-two (letters "panel ") (p .width) (p .depth), length-places (p .width) 0 (feedSheet p), length-feed p, few-places p (fair p refl)))
+    (omega (arith, length_two (letters "panel ") p.width p.depth, length_places p.width 0 (feed_sheet p), length_feed p, few_places p (fair p refl)))
 
-pub panel-most : (s : List ℕ) → length (panelOf s) ≤ 50000
-unfolding panelOf
-panel-most s = text-most (designOf s) (λ p h. design-fair s p h .within)
+pub panel_most : (s : List ℕ) → length (panel_of s) ≤ 50000
+unfolding panel_of
+panel_most s = text_most (design_of s) (λ p h. (design_fair s p h).within)
 
-pub panel-few : (s : List ℕ) → length (panelOf s) < 2 ^ 64
-panel-few s = omega (arith, panel-most s)
+pub panel_few : (s : List ℕ) → length (panel_of s) < 2 ^ 64
+panel_few s = omega (arith, panel_most s)
 
 -- ---- what the reader answers, with room for every feed sheet
-room-is : (p : Panel) (room : ℕ) → feedLength p ≤ room → roomNo (p .width) (p .depth) room ≡ 0
-unfolding roomNo firstOf
-room-is p room h = rw (le-ltb _ _ h)
+room_is : (p : Panel) (room : ℕ) → feed_length p ≤ room → room_no p.width p.depth room ≡ 0
+unfolding room_no first_of
+room_is p room h = rw (le-ltb _ _ h)
 
 record Told (x : Read) (after : List ℕ) (a : Answer) : Type 0 where
-  text : answerText a (take (a .filled) after) ≡ textOf x
-  within : a .filled ≤ length after
+  text : answer_text a (take a.filled after) ≡ text_of x
+  within : a.filled ≤ length after
 
-taken : (p : Panel) (rest : List ℕ) → take (feedLength p) (feedSheet p ++ rest) ≡ feedSheet p
+taken : (p : Panel) (rest : List ℕ) → take (feed_length p) (feed_sheet p ++ rest) ≡ feed_sheet p
 taken p rest =
-    take-append-le (feedLength p) (feedSheet p) rest (omega (arith, length-feed p)) ∙ take-all (feedLength p) (feedSheet p) (omega (arith, length-feed p))
+    take-append-le (feed_length p) (feed_sheet p) rest (omega (arith, length_feed p)) ∙ take_all (feed_length p) (feed_sheet p) (omega (arith, length_feed p))
 
 module _ (before after : List ℕ) (a : Answer) (room : length before ≡ 2368) where
-  told : (x : Read) → ((p : Panel) → x ≡ made p → Within (p .width) (p .depth)) → a ≡ answerOf x (length before) → after ≡ sheetAfter x before → Told x after a
-  unfolding answerOf sheetAfter answerText textOf
+  told : (x : Read) → ((p : Panel) → x ≡ made p → Within p.width p.depth) → a ≡ answer_of x (length before) → after ≡ sheet_after x before → Told x after a
+  unfolding answer_of sheet_after answer_text text_of
   told (refused x) fair e f = record { text = rw e; within = rw e (omega arith) }
   told (made p) fair e f =
-      let f′ = fair p refl in
-      let zero-no = room-is p (length before) (rw room (few-places p f′)) in
-      let some : p .width ≡ 0 → ⊥ = λ z. omega (arith, f′ .some) in
-      let is : a ≡ record { refusal = 0; offset = 0; present = 0; width = p .width; depth = p .depth; filled = feedLength p } = rw zero-no at e in
-      let filled : after ≡ over (feedSheet p) before = rw zero-no at f in
+      let f' = fair p refl in
+      let zero-no = room_is p (length before) (rw room (few_places p f')) in
+      let some : p.width ≡ 0 → ⊥ = λ z. omega (arith, f'.some) in
+      let is : a ≡ record { refusal = 0; offset = 0; present = 0; width = p.width; depth = p.depth; filled = feed_length p } = rw zero-no at e in
+      let filled : after ≡ over (feed_sheet p) before = rw zero-no at f in
       record {
-        text = rw (is, filled, taken p (drop (length (feedSheet p)) before), ne-eqb _ 0 some);
-        within = rw (is, filled, length-append (feedSheet p) (drop (length (feedSheet p)) before)) (omega (arith, length-feed p));
+        text = rw (is, filled, taken p (drop (length (feed_sheet p)) before), ne_eqb _ 0 some);
+        within = rw (is, filled, length-append (feed_sheet p) (drop (length (feed_sheet p)) before)) (omega (arith, length_feed p));
       }
 
 module _ {s before after : List ℕ} {a : Answer} (room : length before ≡ 2368) (r : DesignRead s before after a) where
-  told-design : Told (designOf s) after a
-  told-design = told before after a room (designOf s) (λ p h. design-fair s p h .within) (r .answer) (r .sheet)
+  told_design : Told (design_of s) after a
+  told_design = told before after a room (design_of s) (λ p h. (design_fair s p h).within) r.answer r.sheet
 
-  pub filled-within : a .filled ≤ length after
-  filled-within = told-design .within
+  pub filled_within : a.filled ≤ length after
+  filled_within = told_design.within
 
-  read-text : answerText a (take (a .filled) after) ≡ panelOf s
-  unfolding panelOf
-  read-text = told-design .text
+  read_text : answer_text a (take a.filled after) ≡ panel_of s
+  unfolding panel_of
+  read_text = told_design.text
 
-  module _ {out out′ : List ℕ} {next : ℕ} (p : Puts (answerText a (take (a .filled) after)) 0 out next out′) where
-    pub wanted-is : next ≡ length (panelOf s)
-    wanted-is = text-wanted (panel-few s) (rw read-text at p)
+  module _ {out out' : List ℕ} {next : ℕ} (p : Puts (answer_text a (take a.filled after)) 0 out next out') where
+    pub wanted_is : next ≡ length (panel_of s)
+    wanted_is = text_wanted (panel_few s) (rw read_text at p)
 
-    pub filled-is : out′ ≡ stored out 0 (panelOf s)
-    filled-is = rw (← read-text) (p .buffer)
+    pub filled_is : out' ≡ stored out 0 (panel_of s)
+    filled_is = rw (← read_text) p.buffer

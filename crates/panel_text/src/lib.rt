@@ -1,16 +1,18 @@
 // The text that the panel program writes: a design's feed sheet, row by row, or why the design is refused. Each `put` lets its text go
 // into a lent buffer as those of `text` do, and answers the place behind it.
-ghost use mathlib.Core.Path.{_≡_};
-ghost use Prim.Native.Nat.{_≤_};
-ghost use Rattle·text.specs.Text.{Puts};
-ghost use Rattle·listing_text.specs.Listing.{Lists};
-ghost use Rattle·panel_text·specs.specs.Panel.{twoLine, endOf, placesText, sheetText, answerText, panelOf};
+#![tactic(auto)]
+
+ghost use Rattle.std.specs.Prelude.{◌≡◌, ◌≤◌};
+ghost use Rattle.text.specs.Text.{Puts};
+ghost use Rattle.listing_text.specs.Listing.{Lists};
+ghost use Rattle.panel_text.specs.Panel.{two_line, end_of, places_text, sheet_text, answer_text, panel_of};
+
 use listing_text::Listed;
 use panels::Answer;
 
 // A word, two numbers and the line feed, in front of the buffer.
 fn put_two(out: &mut [u8], word: &[u8], a: usize, b: usize) -> usize
-    ensures { λ r. ⌜ Puts (twoLine (now (word .entry)) a b) 0 (now (out .entry)) r (now (out .exit)) ⌝ }
+    ensures { Puts (two_line word.now a b) 0 out.old result out.new }
 {
     let first = text::put_text(out, 0, word);
     let second = text::put_number(out, first, a, b' ');
@@ -19,8 +21,8 @@ fn put_two(out: &mut [u8], word: &[u8], a: usize, b: usize) -> usize
 
 // The byte behind place i of the sheet.
 fn end_of(width: usize, i: usize) -> u8
-    requires { ⌜ 1 ≤ width ⌝ }
-    ensures { λ r. ⌜ r ≡ endOf width i ⌝ }
+    requires { 1 ≤ width }
+    ensures { result ≡ end_of width i }
 {
     if i % width == width - 1 {
         return b'\n';
@@ -29,8 +31,8 @@ fn end_of(width: usize, i: usize) -> u8
 }
 
 fn put_places(out: &mut [u8], at: usize, sheet: &[u8], width: usize) -> usize
-    requires { ⌜ 1 ≤ width ⌝ }
-    ensures { λ r. ⌜ Puts (placesText width 0 (now (sheet .entry))) at (now (out .entry)) r (now (out .exit)) ⌝ }
+    requires { 1 ≤ width }
+    ensures { Puts (places_text width 0 sheet.now) at out.old result out.new }
 {
     let mut next = at;
     let mut i = 0;
@@ -44,8 +46,8 @@ fn put_places(out: &mut [u8], at: usize, sheet: &[u8], width: usize) -> usize
 }
 
 fn put_sheet(out: &mut [u8], width: usize, depth: usize, sheet: &[u8]) -> usize
-    requires { ⌜ 1 ≤ width ⌝ }
-    ensures { λ r. ⌜ Puts (sheetText width depth (now (sheet .entry))) 0 (now (out .entry)) r (now (out .exit)) ⌝ }
+    requires { 1 ≤ width }
+    ensures { Puts (sheet_text width depth sheet.now) 0 out.old result out.new }
 {
     let next = put_two(out, b"panel ", width, depth);
     put_places(out, next, sheet, width)
@@ -53,7 +55,7 @@ fn put_sheet(out: &mut [u8], width: usize, depth: usize, sheet: &[u8]) -> usize
 
 // The text of what reading a design has answered: of a refused one the width is 0.
 fn put_answer(out: &mut [u8], answer: Answer, sheet: &[u8]) -> usize
-    ensures { λ r. ⌜ Puts (answerText answer (now (sheet .entry))) 0 (now (out .entry)) r (now (out .exit)) ⌝ }
+    ensures { Puts (answer_text answer sheet.now) 0 out.old result out.new }
 {
     let width = answer.width as usize;
     if width == 0 {
@@ -64,7 +66,7 @@ fn put_answer(out: &mut [u8], answer: Answer, sheet: &[u8]) -> usize
 
 // The text of a design, where there is room for it; else `out` stays, and the answer says how much is wanted.
 pub fn panel(design: &[u8], out: &mut [u8]) -> Listed
-    ensures { λ r. ⌜ Lists (panelOf (now (design .entry))) (now (out .entry)) r (now (out .exit)) ⌝ }
+    ensures { Lists (panel_of design.now) out.old result out.new }
 {
     let mut sheet = [0u8; 2368];
     let answer = panels::read(design, &mut sheet);

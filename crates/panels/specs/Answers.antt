@@ -1,38 +1,33 @@
 -- What reading a design answers, and the lent sheet after it (02, P3). Definitions only. Assumes nothing.
-use Prim.Native.Nat.{ℕ, _+_, _*_}
-use mathlib.Core.Path.{_≡_}
-use mathlib.Core.Bool.{cond}
-use mathlib.Core.List.{List, [], _∷_}
-use lib.ListN.{length}
-use lib.Dec.{ltb, eqb}
-use Rattle·order.specs.Order.{_⟶_, firstOf, over}
-use Rattle·designs.specs.declared.Fault.{Fault}
-use Rattle·designs.specs.Panels.{Panel, feedLength, feedSheet}
-use Rattle·designs.specs.Leaves.{Read, refused, made, fault}
-use Rattle·designs.specs.Designs.{designOf}
-use Rattle·panels·specs.specs.declared.Answer.{Answer}
+use Rattle.std.specs.Prelude.{ℕ, ◌+◌, ◌*◌, ◌≡◌, cond, List, [], ◌∷◌, length, ltb, eqb}
+use Rattle.order.specs.Order.{◌⟶◌, first_of, over}
+use Rattle.designs.specs.declared.Fault.{Fault}
+use Rattle.designs.specs.Panels.{feed_length, feed_sheet}
+use Rattle.designs.specs.Leaves.{Read, refused, made, fault}
+use Rattle.designs.specs.Designs.{design_of}
+use Rattle.panels.specs.declared.Answer.{Answer}
 
 -- a refusal gives its number, the offset of the record and how many bytes of it are present; other results are 0
-abbrev pub refusalOf : Fault → Answer
-refusalOf x = record { refusal = x .refusal; offset = x .offset; present = x .present; width = 0; depth = 0; filled = 0 }
+abbrev pub refusal_of : Fault → Answer
+refusal_of x = record { refusal = x.refusal; offset = x.offset; present = x.present; width = 0; depth = 0; filled = 0 }
 
 -- 3 sheet shorter than the feed sheet, last of all; it is no record's
-unfoldable pub roomNo : ℕ → ℕ → ℕ → ℕ
-roomNo w d room = firstOf ((ltb room ((d + 1) * w) ⟶ 3) ∷ [])
+unfoldable pub room_no : ℕ → ℕ → ℕ → ℕ
+room_no w d room = first_of ((ltb room ((d + 1) * w) ⟶ 3) ∷ [])
 
-unfoldable pub answerOf : Read → ℕ → Answer
-answerOf (refused x) room = refusalOf x
-answerOf (made p) room =
-    cond (eqb (roomNo (p .width) (p .depth) room) 0)
-    (record { refusal = 0; offset = 0; present = 0; width = p .width; depth = p .depth; filled = feedLength p })
-    (refusalOf (fault 0 (roomNo (p .width) (p .depth) room)))
+unfoldable pub answer_of : Read → ℕ → Answer
+answer_of (refused x) room = refusal_of x
+answer_of (made p) room =
+    cond (eqb (room_no p.width p.depth room) 0)
+    (record { refusal = 0; offset = 0; present = 0; width = p.width; depth = p.depth; filled = feed_length p })
+    (refusal_of (fault 0 (room_no p.width p.depth room)))
 
-unfoldable pub sheetAfter : Read → List ℕ → List ℕ
-sheetAfter (refused x) before = before
-sheetAfter (made p) before =
-    cond (eqb (roomNo (p .width) (p .depth) (length before)) 0) (over (feedSheet p) before) before
+unfoldable pub sheet_after : Read → List ℕ → List ℕ
+sheet_after (refused x) before = before
+sheet_after (made p) before =
+    cond (eqb (room_no p.width p.depth (length before)) 0) (over (feed_sheet p) before) before
 
 -- what is answered, and the lent sheet after it: further bytes stay, and a refusal changes nothing
 pub record DesignRead (design before after : List ℕ) (r : Answer) : Type 0 where
-  pub answer : r ≡ answerOf (designOf design) (length before)
-  pub sheet : after ≡ sheetAfter (designOf design) before
+  pub answer : r ≡ answer_of (design_of design) (length before)
+  pub sheet : after ≡ sheet_after (design_of design) before

@@ -1,30 +1,24 @@
 // Composed panels: a design is read once, record by record, into a grid, and the feed sheet is written from the grid.
 // Every public call answers every argument; a refusal changes no lent byte.
-ghost use mathlib.Core.Path.{_≡_};
-ghost use mathlib.Core.Bool.{Bool, true, false};
-ghost use mathlib.Core.List.{_++_};
-ghost use Prim.Native.Nat.{ℕ, _+_, _*_, _≤_};
-ghost use lib.ListN.{length, drop};
-ghost use Rattle·network.specs.Rows.{rows};
-ghost use Rattle·designs.specs.Members.{series, beside};
-ghost use Rattle·designs.specs.Designs.{membersIn, joinedAt, recordAt, designOf};
-ghost use Rattle·leaves.specs.Grid.{byteAt};
-ghost use Rattle·leaves.specs.Told.{ReadInto};
-ghost use Rattle·panels·specs.specs.Sums.{moreInSeries, moreBeside};
-ghost use Rattle·panels·specs.specs.Answers.{DesignRead, roomNo};
-use designs::head_refusal;
-use designs::size_refusal;
-use leaves::Judged;
-use leaves::Size;
-use leaves::grid::link;
-use leaves::grid::row_at;
-use leaves::leaf;
-use leaves::refused_head;
-use leaves::told_at;
+#![tactic(auto)]
+
+ghost use Rattle.std.specs.Prelude.{◌≡◌, Bool, true, false, ◌++◌, ℕ, ◌+◌, ◌*◌, ◌≤◌, length, drop};
+ghost use Rattle.network.specs.Rows.{rows};
+ghost use Rattle.designs.specs.Members.{series, beside};
+ghost use Rattle.designs.specs.Designs.{members_in, joined_at, record_at, design_of};
+ghost use Rattle.leaves.specs.Grid.{byte_at};
+ghost use Rattle.leaves.specs.Told.{ReadInto};
+ghost use Rattle.panels.specs.Sums.{more_in_series, more_beside};
+ghost use Rattle.panels.specs.Answers.{DesignRead, room_no};
+
+use designs::{head_refusal, size_refusal};
+use leaves::grid::{link, row_at};
+use leaves::{Judged, Size, leaf, refused_head, told_at};
 use records::field_of_two;
 
 // What reading a design answers: the refusal number, 0 where it was carried out, the offset of the record refused, and how many bytes
 // of it are present where it is cut; the width and the depth of the panel; and how many bytes of the feed sheet were filled.
+#[derive(Clone, Copy)]
 pub struct Answer {
     pub refusal: u8,
     pub offset: usize,
@@ -35,6 +29,7 @@ pub struct Answer {
 }
 
 // The members read so far: is there none, have they equal width (of a series) or depth (of a beside), and their size together.
+#[derive(Clone, Copy)]
 pub struct Sum {
     pub none: bool,
     pub equal: bool,
@@ -42,7 +37,7 @@ pub struct Sum {
 }
 
 fn nothing() -> Sum
-    ensures { λ r. ⌜ r ≡ record { none = true; equal = true; size = record { width = 0; depth = 0 } } ⌝ }
+    ensures { result ≡ record { none = true; equal = true; size = record { width = 0; depth = 0 } } }
 {
     Sum {
         none: true,
@@ -53,8 +48,8 @@ fn nothing() -> Sum
 
 // One member more of a series.
 fn in_series(sum: Sum, p: Size) -> Sum
-    requires { ⌜ (sum .size .depth ≤ 8000000) × (p .depth ≤ 64) ⌝ }
-    ensures { λ r. ⌜ r ≡ moreInSeries sum p ⌝ }
+    requires { (sum.size.depth ≤ 8000000) × (p.depth ≤ 64) }
+    ensures { result ≡ more_in_series sum p }
 {
     let none = sum.none;
     if none {
@@ -75,8 +70,8 @@ fn in_series(sum: Sum, p: Size) -> Sum
 
 // One member more of a beside.
 fn side_by_side(sum: Sum, p: Size) -> Sum
-    requires { ⌜ (sum .size .width ≤ 8000000) × (p .width ≤ 64) ⌝ }
-    ensures { λ r. ⌜ r ≡ moreBeside sum p ⌝ }
+    requires { (sum.size.width ≤ 8000000) × (p.width ≤ 64) }
+    ensures { result ≡ more_beside sum p }
 {
     let none = sum.none;
     if none {
@@ -97,6 +92,7 @@ fn side_by_side(sum: Sum, p: Size) -> Sum
 
 // The members in the bytes, one after another, of the series at an offset. Each is read into the rows from the exit row of
 // those before it on.
+#[cycle(beside_reader_series_reader)]
 fn series_reader(
     bytes: &[u8],
     left: usize,
@@ -105,8 +101,8 @@ fn series_reader(
     row: usize,
     col: usize,
 ) -> Judged
-    requires { ⌜ (length (now grid) ≡ 2368) × (at + 4 + length (now bytes) ≤ 65535) × (row ≤ 64 * at) × (col ≤ 64 * at) ⌝ }
-    ensures { λ r. ⌜ ReadInto (joinedAt series at (membersIn (recordAt left false) (length (now (bytes .entry))) (at + 4) (now (bytes .entry)))) row col (now (grid .entry)) (now (grid .exit)) r ⌝ }
+    requires { (length grid.old ≡ 2368) × (at + 4 + length bytes.now ≤ 65535) × (row ≤ 64 * at) × (col ≤ 64 * at) }
+    ensures { ReadInto (joined_at series at (members_in (record_at left false) (length bytes.now) (at + 4) bytes.now)) row col grid.old grid.new result }
 {
     let mut i = 0;
     let mut sum = nothing();
@@ -140,6 +136,7 @@ fn series_reader(
 }
 
 // The members in the bytes, side by side, of the beside at an offset. Each is read into the columns behind those before it.
+#[cycle(beside_reader_series_reader)]
 fn beside_reader(
     bytes: &[u8],
     left: usize,
@@ -148,8 +145,8 @@ fn beside_reader(
     row: usize,
     col: usize,
 ) -> Judged
-    requires { ⌜ (length (now grid) ≡ 2368) × (at + 4 + length (now bytes) ≤ 65535) × (row ≤ 64 * at) × (col ≤ 64 * at) ⌝ }
-    ensures { λ r. ⌜ ReadInto (joinedAt beside at (membersIn (recordAt left false) (length (now (bytes .entry))) (at + 4) (now (bytes .entry)))) row col (now (grid .entry)) (now (grid .exit)) r ⌝ }
+    requires { (length grid.old ≡ 2368) × (at + 4 + length bytes.now ≤ 65535) × (row ≤ 64 * at) × (col ≤ 64 * at) }
+    ensures { ReadInto (joined_at beside at (members_in (record_at left false) (length bytes.now) (at + 4) bytes.now)) row col grid.old grid.new result }
 {
     let mut i = 0;
     let mut sum = nothing();
@@ -182,8 +179,8 @@ fn beside_reader(
 
 // The outermost record.
 fn outermost(design: &[u8], grid: &mut [u8; 2368]) -> Judged
-    requires { ⌜ length (now grid) ≡ 2368 ⌝ }
-    ensures { λ r. ⌜ ReadInto (designOf (now (design .entry))) 0 0 (now (grid .entry)) (now (grid .exit)) r ⌝ }
+    requires { length grid.old ≡ 2368 }
+    ensures { ReadInto (design_of design.now) 0 0 grid.old grid.new result }
 {
     let number = head_refusal(design, 8, true);
     if number != 0 {
@@ -201,8 +198,8 @@ fn outermost(design: &[u8], grid: &mut [u8; 2368]) -> Judged
 
 // The first rows of the grid, as many columns of each as the panel is wide, into the sheet.
 fn put_rows(grid: &[u8; 2368], width: usize, count: usize, sheet: &mut [u8])
-    requires { ⌜ (width ≤ 64) × (count ≤ 37) × (count * width ≤ length (now sheet)) ⌝ }
-    ensures { λ _. ⌜ now (sheet .exit) ≡ rows (byteAt (now (grid .entry))) width count ++ drop (count * width) (now (sheet .entry)) ⌝ }
+    requires { (width ≤ 64) × (count ≤ 37) × (count * width ≤ length sheet.old) }
+    ensures { sheet.new ≡ rows (byte_at grid.now) width count ++ drop (count * width) sheet.old }
 {
     let mut r = 0;
     while r < count {
@@ -215,8 +212,8 @@ fn put_rows(grid: &[u8; 2368], width: usize, count: usize, sheet: &mut [u8])
 }
 
 fn room_refusal(size: Size, room: usize) -> u8
-    requires { ⌜ (size .width ≤ 64) × (size .depth ≤ 36) ⌝ }
-    ensures { λ r. ⌜ r ≡ roomNo (size .width) (size .depth) room ⌝ }
+    requires { (size.width ≤ 64) × (size.depth ≤ 36) }
+    ensures { result ≡ room_no size.width size.depth room }
 {
     let filled = (size.depth + 1) * size.width;
     if room < filled {
@@ -226,7 +223,7 @@ fn room_refusal(size: Size, room: usize) -> u8
 }
 
 fn refusal(number: u8, offset: usize, present: usize) -> Answer
-    ensures { λ r. ⌜ r ≡ record { refusal = number; offset = offset; present = present; width = 0; depth = 0; filled = 0 } ⌝ }
+    ensures { result ≡ record { refusal = number; offset = offset; present = present; width = 0; depth = 0; filled = 0 } }
 {
     Answer {
         refusal: number,
@@ -240,7 +237,7 @@ fn refusal(number: u8, offset: usize, present: usize) -> Answer
 
 // Reads a design and writes its feed sheet in front of the lent bytes: a row for each layer, then one for the exits.
 pub fn read(design: &[u8], sheet: &mut [u8]) -> Answer
-    ensures { λ r. ⌜ DesignRead (now (design .entry)) (now (sheet .entry)) (now (sheet .exit)) r ⌝ }
+    ensures { DesignRead design.now sheet.old sheet.new result }
 {
     let mut grid = [0u8; 2368];
     let size = match outermost(design, &mut grid) {

@@ -1,67 +1,70 @@
 // Writes every sheet, and what bad arguments get, a line each: `sheet WIDTH CONSTRUCTION REFUSAL BYTES HEX`, where HEX is the
 // whole lent buffer after the call, each byte aa before it.
+#![tactic(auto)]
 
-fn number(n: u64) {
-    io::print_decimal(1, n);
-    io::write_all(1, b" ");
+use std::io;
+
+fn number(rt: HostRuntime, n: u64) -> io::Result<()> {
+    print!(rt; "{n} ")
 }
 
-fn hex(bytes: &[u8]) {
+fn hex(rt: HostRuntime, bytes: &[u8]) -> io::Result<()> {
     if bytes.len() == 0 {
-        io::write_all(1, b"-");
+        print!(rt; "-")?;
     }
-    let mut i = 0;
-    while i < bytes.len() {
-        io::print_hex(1, bytes[i] as u64, 2);
-        i += 1;
+    for b in bytes {
+        print!(rt; "{b:02x}")?;
     }
-    io::write_all(1, b"\n");
+    println!(rt)
 }
 
 // One call, and its line.
-fn show_in(width: u16, construction: u16, out: &mut [u8]) {
+fn show_in(rt: HostRuntime, width: u16, construction: u16, out: &mut [u8]) -> io::Result<()> {
     let done = sheets::sheet(width, construction, out);
-    io::write_all(1, b"sheet ");
-    number(width as u64);
-    number(construction as u64);
-    number(done.refusal as u64);
-    number(done.filled as u64);
-    hex(out);
+    print!(rt; "sheet ")?;
+    number(rt, width as u64)?;
+    number(rt, construction as u64)?;
+    number(rt, done.refusal as u64)?;
+    number(rt, done.filled as u64)?;
+    hex(rt, out)
 }
 
 // The same on a buffer of `room` bytes, at most 2,400.
-fn show(width: u16, construction: u16, room: usize) {
+fn show(rt: HostRuntime, width: u16, construction: u16, room: usize) -> io::Result<()> {
     let mut buffer = [170u8; 2400];
     if room <= 2400 {
-        show_in(width, construction, &mut buffer[..room]);
+        show_in(rt, width, construction, &mut buffer[..room])?;
     }
+    Ok(())
 }
 
 // The sheets of one construction, each in three bytes more than it needs.
-fn show_all(construction: u16) {
+fn show_all(rt: HostRuntime, construction: u16) -> io::Result<()> {
     let mut width = 1u16;
     while width <= network::MAX_WIDTH {
         let depth = network::depth_of(width, construction) as usize;
         if depth <= 36 {
-            show(width, construction, depth * (width as usize) + 3);
+            show(rt, width, construction, depth * (width as usize) + 3)?;
         }
         width = width * 2;
     }
+    Ok(())
 }
 
-fn main() {
-    show_all(network::BITONIC);
-    show_all(network::PERIODIC);
-    show(0, 1, 16);
-    show(3, 1, 16);
-    show(128, 1, 16);
-    show(260, 1, 16);
-    show(65_535, 2, 16);
-    show(4, 0, 16);
-    show(4, 3, 16);
-    show(64, 65_535, 16);
-    show(1, 0, 16);
-    show(4, 1, 11);
-    show(64, 2, 2303);
-    show(2, 2, 1);
+fn main(rt: HostRuntime) -> io::Result<()> {
+    show_all(rt, network::BITONIC)?;
+    show_all(rt, network::PERIODIC)?;
+    show(rt, 0, 1, 16)?;
+    show(rt, 3, 1, 16)?;
+    show(rt, 128, 1, 16)?;
+    show(rt, 260, 1, 16)?;
+    show(rt, 65_535, 2, 16)?;
+    show(rt, 4, 0, 16)?;
+    show(rt, 4, 3, 16)?;
+    show(rt, 64, 65_535, 16)?;
+    show(rt, 1, 0, 16)?;
+    show(rt, 4, 1, 11)?;
+    show(rt, 64, 2, 2303)?;
+    show(rt, 2, 2, 1)?;
+    Ok(())
 }

@@ -1,76 +1,76 @@
 -- Laws of fields. In order: a field by its bytes, whatever the place; a number as bytes and back, over the size of the field;
 -- the bytes of a field and back. Assumes nothing.
-use Prim.Native.Nat.{ℕ, zero, suc, _+_, _*_, _/_, _%_, _^_, _<_, _≤_}
-use mathlib.Core.Path.{_≡_, refl, sym, _∙_, ap}
-use mathlib.Core.List.{List, [], _∷_, _++_}
+use Prim.Native.Nat.{ℕ, zero, suc, ◌+◌, ◌*◌, ◌/◌, ◌%◌, ◌^◌, ◌<◌, ◌≤◌}
+use mathlib.Core.Path.{◌≡◌, refl, sym, ◌∙◌, ap}
+use mathlib.Core.List.{List, [], ◌∷◌, ◌++◌}
 use native.Mathlib.Omega.{arith}
 use native.Mathlib.Nat.{add-zero, pow-succ'}
-use lib.ListN.{length, getD, take, drop, length-drop, List·getD-eq-default}
-use lib.Seq.{getD-drop, getD-take, drop-drop, length-take-le}
-use Rattle·records·specs.specs.Fields.{spelt, field, bytesIn}
+use lib.ListN.{length, get_or, take, drop, length-drop, get_or-eq_default}
+use lib.Seq.{get_or-drop, get_or-take, drop-drop, length-take-le}
+use Rattle.records.specs.Fields.{spelt, field, bytes_in}
 
-spelt-two : (s : List ℕ) → spelt (take 2 s) ≡ getD s 0 0 + 256 * getD s 1 0
+spelt_two : (s : List ℕ) → spelt (take 2 s) ≡ get_or s 0 0 + 256 * get_or s 1 0
 unfolding spelt
-spelt-two [] = refl
-spelt-two (a ∷ []) = refl
-spelt-two (a ∷ b ∷ s) = omega arith
+spelt_two [] = refl
+spelt_two (a ∷ []) = refl
+spelt_two (a ∷ b ∷ s) = omega arith
 
 -- a byte past the end counts as 0
-pub field-two : (s : List ℕ) (at : ℕ) → field 2 s at ≡ getD s at 0 + 256 * getD s (at + 1) 0
-field-two s at = spelt-two (drop at s) ∙ rw (getD-drop at s 0 0, getD-drop at s 1 0, add-zero at)
+pub field_two : (s : List ℕ) (at : ℕ) → field 2 s at ≡ get_or s at 0 + 256 * get_or s (at + 1) 0
+field_two s at = spelt_two (drop at s) ∙ rw (get_or-drop at s 0 0, get_or-drop at s 1 0, add-zero at)
 
-spelt-four : (s : List ℕ) → spelt (take 4 s) ≡ spelt (take 2 s) + 65536 * spelt (take 2 (drop 2 s))
+spelt_four : (s : List ℕ) → spelt (take 4 s) ≡ spelt (take 2 s) + 65536 * spelt (take 2 (drop 2 s))
 unfolding spelt
-spelt-four [] = refl
-spelt-four (a ∷ []) = omega arith
-spelt-four (a ∷ b ∷ []) = omega arith
-spelt-four (a ∷ b ∷ c ∷ []) = omega arith
-spelt-four (a ∷ b ∷ c ∷ d ∷ s) = omega arith
+spelt_four [] = refl
+spelt_four (a ∷ []) = omega arith
+spelt_four (a ∷ b ∷ []) = omega arith
+spelt_four (a ∷ b ∷ c ∷ []) = omega arith
+spelt_four (a ∷ b ∷ c ∷ d ∷ s) = omega arith
 
-pub field-four : (s : List ℕ) (at : ℕ) → field 4 s at ≡ field 2 s at + 65536 * field 2 s (at + 2)
-field-four s at = spelt-four (drop at s) ∙ rw (drop-drop 2 at s)
+pub field_four : (s : List ℕ) (at : ℕ) → field 4 s at ≡ field 2 s at + 65536 * field 2 s (at + 2)
+field_four s at = spelt_four (drop at s) ∙ rw (drop-drop 2 at s)
 
-mod-past : (a q : ℕ) → (a + 256 * q) % 256 ≡ a % 256
-mod-past a q = omega arith
+mod_past : (a q : ℕ) → (a + 256 * q) % 256 ≡ a % 256
+mod_past a q = omega arith
 
 -- past the end there is only 0
-pub field-past : (s : List ℕ) (at : ℕ) → length s ≤ at → field 2 s at ≡ 0
-field-past s at h =
-    rw (field-two, List·getD-eq-default s 0 h, List·getD-eq-default s 0 {n = at + 1} (omega arith))
+pub field_past : (s : List ℕ) (at : ℕ) → length s ≤ at → field 2 s at ≡ 0
+field_past s at h =
+    rw (field_two, get_or-eq_default s 0 h, get_or-eq_default s 0 {n = at + 1} (omega arith))
 
-pub field-four-past : (s : List ℕ) (at : ℕ) → length s ≤ at → field 4 s at ≡ 0
-field-four-past s at h = rw (field-four, field-past s at h, field-past s (at + 2) (omega arith))
+pub field_four_past : (s : List ℕ) (at : ℕ) → length s ≤ at → field 4 s at ≡ 0
+field_four_past s at h = rw (field_four, field_past s at h, field_past s (at + 2) (omega arith))
 
-pub bytesIn-four : (x : ℕ) → bytesIn 4 x ≡ bytesIn 2 (x % 65536) ++ bytesIn 2 (x / 65536)
-unfolding bytesIn
-bytesIn-four x =
+pub bytes_in_four : (x : ℕ) → bytes_in 4 x ≡ bytes_in 2 (x % 65536) ++ bytes_in 2 (x / 65536)
+unfolding bytes_in
+bytes_in_four x =
     let low : x % 65536 % 256 ≡ x % 256 = omega arith in
     let split : x / 256 ≡ x % 65536 / 256 + 256 * (x / 65536) = omega arith in
-    let next : x % 65536 / 256 % 256 ≡ x / 256 % 256 = rw (split, mod-past (x % 65536 / 256)) in
+    let next : x % 65536 / 256 % 256 ≡ x / 256 % 256 = rw (split, mod_past (x % 65536 / 256)) in
     let half : x / 65536 ≡ x / 256 / 256 = omega arith in
     rw (low, next, half)
 
 -- a number that fits its field is spelt by its bytes
-pub spelt-bytesIn : (n x : ℕ) → x < 256 ^ n → spelt (bytesIn n x) ≡ x
-unfolding spelt bytesIn
-spelt-bytesIn zero x h = omega arith
-spelt-bytesIn (suc n) x h =
-    let ih = spelt-bytesIn n (x / 256) (omega (arith, pow-succ' 256 n)) in
+pub spelt_bytes_in : (n x : ℕ) → x < 256 ^ n → spelt (bytes_in n x) ≡ x
+unfolding spelt bytes_in
+spelt_bytes_in zero x h = omega arith
+spelt_bytes_in (suc n) x h =
+    let ih = spelt_bytes_in n (x / 256) (omega (arith, pow-succ' 256 n)) in
     omega arith
 
 -- and bytes are those of the number they spell
-pub bytesIn-spelt : (bytes : List ℕ) → ((i : ℕ) → i < length bytes → getD bytes i 0 < 256) → bytesIn (length bytes) (spelt bytes) ≡ bytes
-unfolding spelt bytesIn
-bytesIn-spelt [] small = refl
-bytesIn-spelt (b ∷ bytes) small =
-    let is-byte : b < 256 = small 0 (omega arith) in
+pub bytes_in_spelt : (bytes : List ℕ) → ((i : ℕ) → i < length bytes → get_or bytes i 0 < 256) → bytes_in (length bytes) (spelt bytes) ≡ bytes
+unfolding spelt bytes_in
+bytes_in_spelt [] small = refl
+bytes_in_spelt (b ∷ bytes) small =
+    let is_byte : b < 256 = small 0 (omega arith) in
     let low : (b + 256 * spelt bytes) % 256 ≡ b = omega arith in
     let high : (b + 256 * spelt bytes) / 256 ≡ spelt bytes = omega arith in
-    rw (low, high, bytesIn-spelt bytes (λ i h. small (suc i) (omega arith)))
+    rw (low, high, bytes_in_spelt bytes (λ i h. small (suc i) (omega arith)))
 
-pub bytesIn-field : (n : ℕ) (s : List ℕ) (at : ℕ) → at + n ≤ length s → ((i : ℕ) → i < length s → getD s i 0 < 256)
-    → bytesIn n (field n s at) ≡ take n (drop at s)
-bytesIn-field n s at fits small =
+pub bytes_in_field : (n : ℕ) (s : List ℕ) (at : ℕ) → at + n ≤ length s → ((i : ℕ) → i < length s → get_or s i 0 < 256)
+    → bytes_in n (field n s at) ≡ take n (drop at s)
+bytes_in_field n s at fits small =
     let whole : length (take n (drop at s)) ≡ n = length-take-le n (drop at s) (simp length-drop (omega arith)) in
-    ap (λ (m : ℕ). bytesIn m (field n s at)) (sym whole)
-    ∙ bytesIn-spelt (take n (drop at s)) (λ i h. rw (getD-take n (drop at s) i 0 (omega arith), getD-drop at s i 0) (small (at + i) (omega arith)))
+    ap (λ (m : ℕ). bytes_in m (field n s at)) (sym whole)
+    ∙ bytes_in_spelt (take n (drop at s)) (λ i h. rw (get_or-take n (drop at s) i 0 (omega arith), get_or-drop at s i 0) (small (at + i) (omega arith)))

@@ -1,7 +1,5 @@
 -- Fields of two and four bytes, little-endian (01, "Schedule bytes"). Definitions only. Assumes nothing.
-use Prim.Native.Nat.{ℕ, zero, suc, _+_, _*_, _/_, _%_}
-use mathlib.Core.List.{List, [], _∷_, _++_}
-use lib.ListN.{length, take, drop}
+use Rattle.std.specs.Prelude.{ℕ, zero, suc, ◌+◌, ◌*◌, ◌/◌, ◌%◌, List, [], ◌∷◌, ◌++◌, length, take, drop}
 
 -- the number that bytes spell, the lowest first
 unfoldable pub spelt : List ℕ → ℕ
@@ -13,9 +11,9 @@ abbrev pub field : ℕ → List ℕ → ℕ → ℕ
 field n s at = spelt (take n (drop at s))
 
 -- a number as n bytes, the lowest first
-unfoldable pub bytesIn : ℕ → ℕ → List ℕ
-bytesIn zero x = []
-bytesIn (suc n) x = x % 256 ∷ bytesIn n (x / 256)
+unfoldable pub bytes_in : ℕ → ℕ → List ℕ
+bytes_in zero x = []
+bytes_in (suc n) x = x % 256 ∷ bytes_in n (x / 256)
 
 -- a buffer with bytes at a place of it; what stands before and behind them stays
 unfoldable pub placed : List ℕ → ℕ → List ℕ → List ℕ

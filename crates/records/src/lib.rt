@@ -1,14 +1,14 @@
 // The records of a schedule: read from bytes and written to bytes. A record carries any field values; only running judges them.
-ghost use mathlib.Core.Path.{_≡_};
-ghost use mathlib.Core.Bool.{true, false};
-ghost use mathlib.Core.List.{_++_};
-ghost use Prim.Native.Nat.{_+_, _≤_};
-ghost use lib.ListN.{length, getD};
-ghost use Rattle·records·specs.specs.Fields.{field, bytesIn, placed};
-ghost use Rattle·records·specs.specs.Reading.{lengthOf, recordIn, readNo, presentOf, readOf};
-ghost use Rattle·records·specs.specs.Writing.{kindOf, fieldsOf, sizeOf, bytesOf, Writes};
+#![tactic(auto)]
+
+ghost use Rattle.std.specs.Prelude.{◌≡◌, true, false, ◌++◌, ◌+◌, ◌≤◌, length, get_or};
+ghost use Rattle.records.specs.Fields.{field, bytes_in, placed};
+ghost use Rattle.records.specs.Reading.{length_of, record_in, read_no, present_of, read_of};
+ghost use Rattle.records.specs.Writing.{kind_of, fields_of, size_of, bytes_of, Writes};
+
 use order::Filled;
 
+#[derive(Clone, Copy)]
 pub enum Record {
     Open { width: u16, construction: u16 },
     Enter { token: u16, wire: u16 },
@@ -17,6 +17,7 @@ pub enum Record {
     Number { token: u16, wire: u16, number: u32 },
 }
 
+#[derive(Clone, Copy)]
 pub enum Read {
     // The record, and its length.
     Got(Record, usize),
@@ -26,14 +27,14 @@ pub enum Read {
 
 // The byte at a place, 0 past the end.
 fn byte_at(bytes: &[u8], at: usize) -> u8
-    ensures { λ r. ⌜ r ≡ getD (now (bytes .entry)) at 0 ⌝ }
+    ensures { result ≡ get_or bytes.now at 0 }
 {
     if at < bytes.len() { bytes[at] } else { 0 }
 }
 
 // The field of two bytes at a place; a byte past the end counts as 0.
 pub fn field_of_two(bytes: &[u8], at: usize) -> u16
-    ensures { λ r. ⌜ r ≡ field 2 (now (bytes .entry)) at ⌝ }
+    ensures { result ≡ field 2 bytes.now at }
 {
     if bytes.len() <= at {
         return 0;
@@ -45,7 +46,7 @@ pub fn field_of_two(bytes: &[u8], at: usize) -> u16
 
 // The same of four bytes.
 pub fn field_of_four(bytes: &[u8], at: usize) -> u32
-    ensures { λ r. ⌜ r ≡ field 4 (now (bytes .entry)) at ⌝ }
+    ensures { result ≡ field 4 bytes.now at }
 {
     if bytes.len() <= at {
         return 0;
@@ -56,8 +57,9 @@ pub fn field_of_four(bytes: &[u8], at: usize) -> u32
 }
 
 // The length of a record of a kind, 0 where there is no such kind.
+#[tactic(auto, unfolding(crate::specs::Reading::length_of))]
 fn length_of(kind: u16) -> u16
-    ensures { λ r. ⌜ r ≡ lengthOf kind ⌝ }
+    ensures { result ≡ length_of kind }
 {
     match kind {
         1 => 8,
@@ -70,8 +72,9 @@ fn length_of(kind: u16) -> u16
 }
 
 // The record of a kind whose fields stand behind the head.
+#[tactic(auto, unfolding(crate::specs::Reading::record_in))]
 fn record_in(kind: u16, bytes: &[u8]) -> Record
-    ensures { λ r. ⌜ r ≡ recordIn kind (now (bytes .entry)) ⌝ }
+    ensures { result ≡ record_in kind bytes.now }
 {
     match kind {
         1 => Record::Open {
@@ -98,7 +101,7 @@ fn record_in(kind: u16, bytes: &[u8]) -> Record
 
 // The refusal of the record in front, 0 where there is none.
 fn refusal(bytes: &[u8], reports: bool) -> u8
-    ensures { λ r. ⌜ r ≡ readNo reports (now (bytes .entry)) ⌝ }
+    ensures { result ≡ read_no reports bytes.now }
 {
     let kind = field_of_two(bytes, 2);
     let size = length_of(kind);
@@ -121,7 +124,7 @@ fn refusal(bytes: &[u8], reports: bool) -> u8
 
 // How many bytes of a refused record are present, with n from its first to the end: n where it is cut, else 0.
 pub fn present_of(number: u8, n: usize) -> usize
-    ensures { λ r. ⌜ r ≡ presentOf number n ⌝ }
+    ensures { result ≡ present_of number n }
 {
     if (number == 11) | (number == 23) {
         n
@@ -131,7 +134,7 @@ pub fn present_of(number: u8, n: usize) -> usize
 }
 
 fn read_among(bytes: &[u8], reports: bool) -> Read
-    ensures { λ r. ⌜ r ≡ readOf reports (now (bytes .entry)) ⌝ }
+    ensures { result ≡ read_of reports bytes.now }
 {
     let number = refusal(bytes, reports);
     if number != 0 {
@@ -146,43 +149,43 @@ fn read_among(bytes: &[u8], reports: bool) -> Read
 
 // The record in front of the bytes, of any kind.
 pub fn read_record(bytes: &[u8]) -> Read
-    ensures { λ r. ⌜ r ≡ readOf true (now (bytes .entry)) ⌝ }
+    ensures { result ≡ read_of true bytes.now }
 {
     read_among(bytes, true)
 }
 
 // The same inside a schedule, where kind 5 is unknown.
 pub fn read_in_schedule(bytes: &[u8]) -> Read
-    ensures { λ r. ⌜ r ≡ readOf false (now (bytes .entry)) ⌝ }
+    ensures { result ≡ read_of false bytes.now }
 {
     read_among(bytes, false)
 }
 
 fn put16(out: &mut [u8], at: usize, v: u16)
-    requires { ⌜ at + 2 ≤ length (now out) ⌝ }
-    ensures { λ _. ⌜ now (out .exit) ≡ placed (now (out .entry)) at (bytesIn 2 v) ⌝ }
+    requires { at + 2 ≤ length out.old }
+    ensures { out.new ≡ placed out.old at (bytes_in 2 v) }
 {
     out[at] = (v % 256) as u8;
     out[at + 1] = (v / 256 % 256) as u8;
 }
 
 fn put_pair(out: &mut [u8], at: usize, a: u16, b: u16)
-    requires { ⌜ at + 4 ≤ length (now out) ⌝ }
-    ensures { λ _. ⌜ now (out .exit) ≡ placed (now (out .entry)) at (bytesIn 2 a ++ bytesIn 2 b) ⌝ }
+    requires { at + 4 ≤ length out.old }
+    ensures { out.new ≡ placed out.old at (bytes_in 2 a ++ bytes_in 2 b) }
 {
     put16(out, at, a);
     put16(out, at + 2, b);
 }
 
 fn put32(out: &mut [u8], at: usize, v: u32)
-    requires { ⌜ at + 4 ≤ length (now out) ⌝ }
-    ensures { λ _. ⌜ now (out .exit) ≡ placed (now (out .entry)) at (bytesIn 4 v) ⌝ }
+    requires { at + 4 ≤ length out.old }
+    ensures { out.new ≡ placed out.old at (bytes_in 4 v) }
 {
     put_pair(out, at, (v % 65536) as u16, (v / 65536) as u16);
 }
 
 fn kind_of(item: Record) -> u16
-    ensures { λ r. ⌜ r ≡ kindOf item ⌝ }
+    ensures { result ≡ kind_of item }
 {
     match item {
         Record::Open {
@@ -202,14 +205,14 @@ fn kind_of(item: Record) -> u16
 
 // The length of a record's bytes.
 pub fn size_of(item: Record) -> usize
-    ensures { λ r. ⌜ r ≡ sizeOf item ⌝ }
+    ensures { result ≡ size_of item }
 {
     length_of(kind_of(item)) as usize
 }
 
 fn put_fields(out: &mut [u8], at: usize, item: Record)
-    requires { ⌜ at + length (fieldsOf item) ≤ length (now out) ⌝ }
-    ensures { λ _. ⌜ now (out .exit) ≡ placed (now (out .entry)) at (fieldsOf item) ⌝ }
+    requires { at + length (fields_of item) ≤ length out.old }
+    ensures { out.new ≡ placed out.old at (fields_of item) }
 {
     match item {
         Record::Open {
@@ -232,8 +235,8 @@ fn put_fields(out: &mut [u8], at: usize, item: Record)
 
 // Writes a record's bytes at a place that has room for them.
 pub fn put_record(out: &mut [u8], at: usize, item: Record)
-    requires { ⌜ at + sizeOf item ≤ length (now out) ⌝ }
-    ensures { λ _. ⌜ now (out .exit) ≡ placed (now (out .entry)) at (bytesOf item) ⌝ }
+    requires { at + size_of item ≤ length out.old }
+    ensures { out.new ≡ placed out.old at (bytes_of item) }
 {
     let kind = kind_of(item);
     let size = length_of(kind);
@@ -243,7 +246,7 @@ pub fn put_record(out: &mut [u8], at: usize, item: Record)
 
 // Writes a record in front of out, where there is room; the rest of out stays.
 pub fn write_record(item: Record, out: &mut [u8]) -> Filled
-    ensures { λ r. ⌜ Writes item (now (out .entry)) r (now (out .exit)) ⌝ }
+    ensures { Writes item out.old result out.new }
 {
     let size = size_of(item);
     if out.len() < size {

@@ -1,113 +1,113 @@
 -- Laws of sums, and of a count at one place alone. In order: one place; sums of like and of unlike counts; sums taken apart.
 -- Assumes nothing.
-use Prim.Native.Nat.{ℕ, zero, suc, _+_, _-_, _*_, _≤_, _<_}
-use mathlib.Core.Path.{_≡_, refl, ap, ap₂, sym, _∙_}
-use mathlib.Core.Logic.{_≢_}
-use native.Mathlib.Nat.{le-step, lt-suc-self, not-suc-le-zero, le-refl, add-zero, add-suc}
-use native.Mathlib.Decide.{ℕ-discrete}
+use Prim.Native.Nat.{ℕ, zero, suc, ◌+◌, ◌-◌, ◌*◌, ◌≤◌, ◌<◌}
+use mathlib.Core.Path.{◌≡◌, refl, ap, ap₂, sym, ◌∙◌}
+use mathlib.Core.Logic.{◌≢◌}
+use native.Mathlib.Nat.{le_step, lt-suc_self, not-suc-le-zero, le_refl, add-zero, add-suc}
+use native.Mathlib.Decide.{ℕ_discrete}
 use native.Mathlib.Omega.{arith}
-use borrow.Author.Tests.{eq-eqb, ne-eqb}
-use Rattle·rest·specs.specs.Sum.{only, sum}
+use borrow.Author.Tests.{eq-eqb, ne_eqb}
+use Rattle.rest.specs.Sum.{only, sum}
 
-pub only-same : (a b y : ℕ) → a ≡ b → only a b y ≡ y
+pub only_same : (a b y : ℕ) → a ≡ b → only a b y ≡ y
 unfolding only
-only-same a b y e = rw (eq-eqb a b e)
+only_same a b y e = rw (eq-eqb a b e)
 
-pub only-other : (a b y : ℕ) → a ≢ b → only a b y ≡ 0
+pub only_other : (a b y : ℕ) → a ≢ b → only a b y ≡ 0
 unfolding only
-only-other a b y n = rw (ne-eqb a b n)
+only_other a b y n = rw (ne_eqb a b n)
 
-pub only-zero : (a b : ℕ) → only a b 0 ≡ 0
-only-zero a b = elim (ℕ-discrete a b) [ yes e ↦ only-same a b 0 e | no d ↦ only-other a b 0 d ]
+pub only_zero : (a b : ℕ) → only a b 0 ≡ 0
+only_zero a b = elim (ℕ_discrete a b) [ yes e ↦ only_same a b 0 e | no d ↦ only_other a b 0 d ]
 
-pub only-mono : (a b y z : ℕ) → y ≤ z → only a b y ≤ only a b z
-only-mono a b y z h = elim (ℕ-discrete a b) [
-  | yes e ↦ rw (only-same a b y e, only-same a b z e) h
-  | no d ↦ rw (only-other a b y d, only-other a b z d) (le-refl 0)
+pub only_mono : (a b y z : ℕ) → y ≤ z → only a b y ≤ only a b z
+only_mono a b y z h = elim (ℕ_discrete a b) [
+  | yes e ↦ rw (only_same a b y e, only_same a b z e) h
+  | no d ↦ rw (only_other a b y d, only_other a b z d) (le_refl 0)
 ]
 
-pub sum-ext : (n : ℕ) (f g : ℕ → ℕ) → ((i : ℕ) → i < n → f i ≡ g i) → sum n f ≡ sum n g
+pub sum_ext : (n : ℕ) (f g : ℕ → ℕ) → ((i : ℕ) → i < n → f i ≡ g i) → sum n f ≡ sum n g
 unfolding sum
-sum-ext zero f g h = refl
-sum-ext (suc n) f g h = ap₂ _+_ (sum-ext n f g (λ i l. h i (le-step l))) (h n (lt-suc-self n))
+sum_ext zero f g h = refl
+sum_ext (suc n) f g h = ap₂ ◌+◌ (sum_ext n f g (λ i l. h i (le_step l))) (h n (lt-suc_self n))
 
-pub sum-mono : (n : ℕ) (f g : ℕ → ℕ) → ((i : ℕ) → i < n → f i ≤ g i) → sum n f ≤ sum n g
+pub sum_mono : (n : ℕ) (f g : ℕ → ℕ) → ((i : ℕ) → i < n → f i ≤ g i) → sum n f ≤ sum n g
 unfolding sum
-sum-mono zero f g h = omega arith
-sum-mono (suc n) f g h = omega (arith, sum-mono n f g (λ i l. h i (le-step l)), h n (lt-suc-self n))
+sum_mono zero f g h = omega arith
+sum_mono (suc n) f g h = omega (arith, sum_mono n f g (λ i l. h i (le_step l)), h n (lt-suc_self n))
 
 -- two functions that differ at k only
-pub sum-change : (n : ℕ) (f g : ℕ → ℕ) (k : ℕ) → k < n → ((i : ℕ) → i < n → i ≢ k → g i ≡ f i) → sum n g + f k ≡ sum n f + g k
+pub sum_change : (n : ℕ) (f g : ℕ → ℕ) (k : ℕ) → k < n → ((i : ℕ) → i < n → i ≢ k → g i ≡ f i) → sum n g + f k ≡ sum n f + g k
 unfolding sum
-sum-change zero f g k l h = absurd (not-suc-le-zero l)
-sum-change (suc n) f g k l h = elim (ℕ-discrete n k) [
+sum_change zero f g k l h = absurd (not-suc-le-zero l)
+sum_change (suc n) f g k l h = elim (ℕ_discrete n k) [
   | yes e ↦
-      let q : sum n g ≡ sum n f = sum-ext n g f (λ i m. h i (le-step m) (omega arith)) in
+      let q : sum n g ≡ sum n f = sum_ext n g f (λ i m. h i (le_step m) (omega arith)) in
       rw (q, ← e) (omega arith)
-  | no d ↦ omega (arith, sum-change n f g k (omega arith) (λ i m. h i (le-step m)), h n (lt-suc-self n) d)
+  | no d ↦ omega (arith, sum_change n f g k (omega arith) (λ i m. h i (le_step m)), h n (lt-suc_self n) d)
 ]
 
 -- a sum of differences
-pub sum-minus : (n : ℕ) (f g : ℕ → ℕ) → ((i : ℕ) → i < n → g i ≤ f i) → sum n (λ i. f i - g i) + sum n g ≡ sum n f
+pub sum_minus : (n : ℕ) (f g : ℕ → ℕ) → ((i : ℕ) → i < n → g i ≤ f i) → sum n (λ i. f i - g i) + sum n g ≡ sum n f
 unfolding sum
-sum-minus zero f g h = refl
-sum-minus (suc n) f g h = omega (arith, sum-minus n f g (λ i l. h i (le-step l)), h n (lt-suc-self n))
+sum_minus zero f g h = refl
+sum_minus (suc n) f g h = omega (arith, sum_minus n f g (λ i l. h i (le_step l)), h n (lt-suc_self n))
 
-pub sum-zero : (n : ℕ) (f : ℕ → ℕ) → ((i : ℕ) → i < n → f i ≡ 0) → sum n f ≡ 0
+pub sum_zero : (n : ℕ) (f : ℕ → ℕ) → ((i : ℕ) → i < n → f i ≡ 0) → sum n f ≡ 0
 unfolding sum
-sum-zero zero f h = refl
-sum-zero (suc n) f h = omega (arith, sum-zero n f (λ i l. h i (le-step l)), h n (lt-suc-self n))
+sum_zero zero f h = refl
+sum_zero (suc n) f h = omega (arith, sum_zero n f (λ i l. h i (le_step l)), h n (lt-suc_self n))
 
 -- a summand is at most the sum
-pub term-le-sum : (n : ℕ) (f : ℕ → ℕ) (k : ℕ) → k < n → f k ≤ sum n f
+pub term_le_sum : (n : ℕ) (f : ℕ → ℕ) (k : ℕ) → k < n → f k ≤ sum n f
 unfolding sum
-term-le-sum zero f k l = absurd (not-suc-le-zero l)
-term-le-sum (suc n) f k l = elim (ℕ-discrete n k) [
+term_le_sum zero f k l = absurd (not-suc-le-zero l)
+term_le_sum (suc n) f k l = elim (ℕ_discrete n k) [
   | yes e ↦ rw (← e) (omega arith)
-  | no d ↦ omega (arith, term-le-sum n f k (omega arith))
+  | no d ↦ omega (arith, term_le_sum n f k (omega arith))
 ]
 
-pub sum-add : (n : ℕ) (f g : ℕ → ℕ) → sum n (λ i. f i + g i) ≡ sum n f + sum n g
+pub sum_add : (n : ℕ) (f g : ℕ → ℕ) → sum n (λ i. f i + g i) ≡ sum n f + sum n g
 unfolding sum
-sum-add zero f g = refl
-sum-add (suc n) f g = omega (arith, sum-add n f g)
+sum_add zero f g = refl
+sum_add (suc n) f g = omega (arith, sum_add n f g)
 
 -- y at k alone
-pub sum-only : (n k y : ℕ) → k < n → sum n (λ i. only k i y) ≡ y
-sum-only n k y l =
+pub sum_only : (n k y : ℕ) → k < n → sum n (λ i. only k i y) ≡ y
+sum_only n k y l =
     omega (
       arith,
-      sum-zero n (λ i. 0) (λ i m. refl),
-      only-same k k y refl,
-      sum-change n (λ i. 0) (λ i. only k i y) k l (λ i m d. only-other k i y (λ e. d (sym e))),
+      sum_zero n (λ i. 0) (λ i m. refl),
+      only_same k k y refl,
+      sum_change n (λ i. 0) (λ i. only k i y) k l (λ i m d. only_other k i y (λ e. d (sym e))),
     )
 
-pub sum-ones : (n : ℕ) → sum n (λ i. 1) ≡ n
+pub sum_ones : (n : ℕ) → sum n (λ i. 1) ≡ n
 unfolding sum
-sum-ones zero = refl
-sum-ones (suc n) = omega (arith, sum-ones n)
+sum_ones zero = refl
+sum_ones (suc n) = omega (arith, sum_ones n)
 
-pub sum-least : (n a : ℕ) (f : ℕ → ℕ) → ((i : ℕ) → i < n → a ≤ f i) → n * a ≤ sum n f
+pub sum_least : (n a : ℕ) (f : ℕ → ℕ) → ((i : ℕ) → i < n → a ≤ f i) → n * a ≤ sum n f
 unfolding sum
-sum-least zero a f h = omega arith
-sum-least (suc n) a f h = omega (arith, sum-least n a f (λ i l. h i (le-step l)), h n (lt-suc-self n))
+sum_least zero a f h = omega arith
+sum_least (suc n) a f h = omega (arith, sum_least n a f (λ i l. h i (le_step l)), h n (lt-suc_self n))
 
-pub sum-most : (n a : ℕ) (f : ℕ → ℕ) → ((i : ℕ) → i < n → f i ≤ a) → sum n f ≤ n * a
+pub sum_most : (n a : ℕ) (f : ℕ → ℕ) → ((i : ℕ) → i < n → f i ≤ a) → sum n f ≤ n * a
 unfolding sum
-sum-most zero a f h = omega arith
-sum-most (suc n) a f h = omega (arith, sum-most n a f (λ i l. h i (le-step l)), h n (lt-suc-self n))
+sum_most zero a f h = omega arith
+sum_most (suc n) a f h = omega (arith, sum_most n a f (λ i l. h i (le_step l)), h n (lt-suc_self n))
 
 -- the first m, then n more
-pub sum-append : (m n : ℕ) (f : ℕ → ℕ) → sum (m + n) f ≡ sum m f + sum n (λ i. f (m + i))
+pub sum_append : (m n : ℕ) (f : ℕ → ℕ) → sum (m + n) f ≡ sum m f + sum n (λ i. f (m + i))
 unfolding sum
-sum-append m zero f = rw (add-zero m) (omega arith)
-sum-append m (suc n) f = rw (add-suc m n) (omega (arith, sum-append m n f))
+sum_append m zero f = rw (add-zero m) (omega arith)
+sum_append m (suc n) f = rw (add-suc m n) (omega (arith, sum_append m n f))
 
 -- the even places and the odd ones
-pub sum-pairs : (n : ℕ) (f : ℕ → ℕ) → sum (2 * n) f ≡ sum n (λ i. f (2 * i)) + sum n (λ i. f (2 * i + 1))
+pub sum_pairs : (n : ℕ) (f : ℕ → ℕ) → sum (2 * n) f ≡ sum n (λ i. f (2 * i)) + sum n (λ i. f (2 * i + 1))
 unfolding sum
-sum-pairs zero f = refl
-sum-pairs (suc n) f =
+sum_pairs zero f = refl
+sum_pairs (suc n) f =
     let twice : 2 * suc n ≡ suc (suc (2 * n)) = omega arith in
     let last : f (suc (2 * n)) ≡ f (2 * n + 1) = ap f (omega arith) in
-    ap (λ t. sum t f) twice ∙ omega (arith, sum-pairs n f)
+    ap (λ t. sum t f) twice ∙ omega (arith, sum_pairs n f)

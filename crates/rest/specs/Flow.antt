@@ -1,7 +1,7 @@
 -- Tokens at rest (01, "A cell", "Wiring"; 000, 2.1): how many each wire has had, once all that entered have come out.
 -- The count of wire v is x v; of w wires those below w count. Definitions only. Assumes nothing.
-use Prim.Native.Nat.{ℕ, zero, suc, _+_, _-_, _/_, _%_}
-use Rattle·rest·specs.specs.Sum.{only, sum}
+use Rattle.std.specs.Prelude.{ℕ, zero, suc, ◌+◌, ◌-◌, ◌/◌, ◌%◌}
+use Rattle.rest.specs.Sum.{only, sum}
 
 -- outlet s of a cell after n tokens: n/2 rounded up at the top, 0, and rounded down at the bottom, 1
 abbrev pub outlet : ℕ → ℕ → ℕ

@@ -1,12 +1,11 @@
 -- Both builds count (000, 2.1 and Theorems 3.6 and 4.4), at every width w = 2^k, as the sheets of crate `network` wire them.
 -- Definitions and the statement only; `counts` of proofs/Rest proves it. Assumes nothing.
-use mathlib.Core.Path.{_≡_}
-use Prim.Native.Nat.{ℕ, _+_, _/_, _^_, _<_, _≤_}
-use Rattle·network.specs.Widths.{depth}
-use Rattle·network.specs.Wiring.{place}
-use Rattle·rest·specs.specs.Sum.{sum}
-use Rattle·rest·specs.specs.Flow.{flow}
-use Rattle·rest·specs.specs.Share.{share}
+use Rattle.std.specs.Prelude.{◌≡◌, ℕ, ◌+◌, ◌/◌, ◌^◌, ◌<◌, ◌≤◌}
+use Rattle.network.specs.Widths.{depth}
+use Rattle.network.specs.Wiring.{place}
+use Rattle.rest.specs.Sum.{sum}
+use Rattle.rest.specs.Flow.{flow}
+use Rattle.rest.specs.Share.{share}
 
 -- the step property of w counts: 0 ≤ x i - x j ≤ 1 for i < j
 abbrev pub Step : ℕ → (ℕ → ℕ) → Type 0

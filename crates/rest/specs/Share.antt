@@ -1,5 +1,5 @@
 -- The share of an exit (01; 000, 2.1). Definitions only. Assumes nothing.
-use Prim.Native.Nat.{ℕ, _+_, _-_, _/_}
+use Rattle.std.specs.Prelude.{ℕ, ◌+◌, ◌-◌, ◌/◌}
 
 -- the share of exit i of w in m tokens: (m - i)/w rounded up, and 0 where i is m or more
 unfoldable pub share : ℕ → ℕ → ℕ → ℕ

@@ -1,7 +1,5 @@
 -- Sums over the wires, the cells or the exits below a number. Definitions only. Assumes nothing.
-use Prim.Native.Nat.{ℕ, zero, suc, _+_}
-use mathlib.Core.Bool.{cond}
-use lib.Dec.{eqb}
+use Rattle.std.specs.Prelude.{ℕ, zero, suc, ◌+◌, cond, eqb}
 
 -- y where a is b, else 0
 unfoldable pub only : ℕ → ℕ → ℕ → ℕ

@@ -1,1 +1,2 @@
 // Networks at rest: definitions and laws alone, no code.
+#![tactic(auto)]

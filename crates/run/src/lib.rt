@@ -1,39 +1,43 @@
 // A run of a build, by value: opened, entered and turned. Every call answers every argument; a refused call gives the record
 // back as it was.
-use board::Board;
-use board::Place;
-use moves::Moved;
-use moves::Turn;
-ghost use mathlib.Core.Path.{_≡_};
-ghost use mathlib.Core.Bool.{true};
-ghost use Prim.Native.Nat.{_<_};
-ghost use Rattle·network.specs.Widths.{depthOf};
-ghost use Rattle·network.specs.Rows.{placeOf};
-ghost use Rattle·run·specs.specs.Limits.{LimitsAre};
-ghost use Rattle·run·specs.specs.Run.{fresh, openOf, sound, withBoard, enterOf, turnOf};
+#![tactic(auto)]
 
+ghost use Rattle.std.specs.Prelude.{◌≡◌, true, ◌<◌};
+ghost use Rattle.network.specs.Widths.{depth_of};
+ghost use Rattle.network.specs.Rows.{place_of};
+ghost use Rattle.run.specs.Limits.{LimitsAre};
+ghost use Rattle.run.specs.Run.{fresh, open_of, sound, with_board, enter_of, turn_of};
+
+use board::{Board, Place};
+use moves::{Moved, Turn};
+
+#[derive(Clone, Copy)]
 pub struct Run {
     pub width: u16,
     pub construction: u16,
     pub board: Board,
 }
 
+#[derive(Clone, Copy)]
 pub struct Opened {
     pub refusal: u8,
     pub run: Run,
 }
 
+#[derive(Clone, Copy)]
 pub struct Entered {
     pub refusal: u8,
     pub run: Run,
 }
 
+#[derive(Clone, Copy)]
 pub struct Turned {
     pub answer: Turn,
     pub run: Run,
 }
 
 // The constants of a run, as a value that a contract can speak of.
+#[derive(Clone, Copy)]
 struct Limits {
     width: u16,
     entered: u32,
@@ -43,7 +47,7 @@ struct Limits {
 
 // Nothing calls it: its contract holds the constants to the definitions.
 fn constants() -> Limits
-    ensures { λ r. ⌜ LimitsAre r ⌝ }
+    ensures { LimitsAre result }
 {
     Limits {
         width: Run::MAX_WIDTH,
@@ -54,7 +58,7 @@ fn constants() -> Limits
 }
 
 fn made(width: u16, construction: u16) -> Run
-    ensures { λ r. ⌜ r ≡ fresh width construction ⌝ }
+    ensures { result ≡ fresh width construction }
 {
     let board = board::fresh();
     Run {
@@ -66,14 +70,14 @@ fn made(width: u16, construction: u16) -> Run
 
 // The place that a token's wire feeds, below the width.
 fn feeds_at(width: u16, construction: u16, place: Place) -> u8
-    requires { ⌜ (place .level < depthOf width construction) × (place .wire < width) ⌝ }
-    ensures { λ r. ⌜ r ≡ placeOf width construction (place .level) (place .wire) ⌝ }
+    requires { (place.level < depth_of width construction) × (place.wire < width) }
+    ensures { result ≡ place_of width construction place.level place.wire }
 {
     network::place_of(width, construction, place.level, place.wire) as u8
 }
 
 fn moved_on(run: Run, moved: Moved) -> Turned
-    ensures { λ r. ⌜ r ≡ record { answer = moved .answer; run = withBoard run (moved .board) } ⌝ }
+    ensures { result ≡ record { answer = moved.answer; run = with_board run moved.board } }
 {
     let answer = moved.answer;
     let board = moved.board;
@@ -98,7 +102,7 @@ impl Run {
 
     // A run with nothing entered; refused by 1 and 2, with a record of width 0 and construction 0, which is not sound.
     pub fn open(width: u16, construction: u16) -> Opened
-        ensures { λ r. ⌜ r ≡ openOf width construction ⌝ }
+        ensures { result ≡ open_of width construction }
     {
         let refusal = network::open_refusal(width, construction);
         if refusal == 0 {
@@ -110,7 +114,7 @@ impl Run {
     }
 
     pub fn is_sound(self) -> bool
-        ensures { λ r. ⌜ r ≡ sound self ⌝ }
+        ensures { result ≡ sound self }
     {
         let width = self.width;
         let construction = self.construction;
@@ -124,7 +128,7 @@ impl Run {
 
     // A token enters on a wire of level 0; refused by 9, 4, 5, 6, 7.
     pub fn enter(self, token: u16, wire: u16) -> Entered
-        ensures { λ r. ⌜ r ≡ enterOf self token wire ⌝ }
+        ensures { result ≡ enter_of self token wire }
     {
         let good = self.is_sound();
         if good {
@@ -138,7 +142,7 @@ impl Run {
 
     // A token inside passes its next cell, or is dealt a number at its exit; refused by 9, 4, 8.
     pub fn turn(self, token: u16) -> Turned
-        ensures { λ r. ⌜ r ≡ turnOf self token ⌝ }
+        ensures { result ≡ turn_of self token }
     {
         let sound = self.is_sound();
         if sound {
@@ -152,8 +156,8 @@ impl Run {
 
     // The same of a run that is known to be sound, for a caller that judged it once: every call keeps it so.
     pub fn enter_sound(self, token: u16, wire: u16) -> Entered
-        requires { ⌜ sound self ≡ true ⌝ }
-        ensures { λ r. ⌜ r ≡ enterOf self token wire ⌝ }
+        requires { sound self ≡ true }
+        ensures { result ≡ enter_of self token wire }
     {
         let board = self.board;
         let entered = moves::enter(board, self.width, token, wire);
@@ -169,8 +173,8 @@ impl Run {
     }
 
     pub fn turn_sound(self, token: u16) -> Turned
-        requires { ⌜ sound self ≡ true ⌝ }
-        ensures { λ r. ⌜ r ≡ turnOf self token ⌝ }
+        requires { sound self ≡ true }
+        ensures { result ≡ turn_of self token }
     {
         let board = self.board;
         let width = self.width;

@@ -1,67 +1,67 @@
 -- Running a schedule, from its pass: a law for each way out of `run`; the copy. Assumes nothing.
-use mathlib.Core.Path.{_≡_, refl, ap, sym, _∙_}
-use mathlib.Core.List.{List, [], _∷_, _++_}
-use Prim.Native.Nat.{ℕ, zero, suc, _+_, _<_, _≤_}
+use mathlib.Core.Path.{◌≡◌, refl, ap, sym, ◌∙◌}
+use mathlib.Core.List.{List, [], ◌∷◌, ◌++◌}
+use Prim.Native.Nat.{ℕ, zero, suc, ◌+◌, ◌<◌, ◌≤◌}
 use native.Mathlib.Omega.{arith}
 use native.Mathlib.Numerals.{add-one}
-use lib.ListN.{length, take, drop, getD, set, length-append, length-set}
-use lib.Seq.{take-at}
+use lib.ListN.{length, take, drop, get_or, set, length-append, length-set}
+use lib.Seq.{take_at}
 use borrow.Author.Tests.{le-leb, lt-leb, lt-ltb, le-ltb}
-use Rattle·outcome.specs.declared.Outcome.{Outcome}
-use Rattle·outcome.specs.declared.Outcome.the-variants.{Accepted, Refused}
-use Rattle·outcome.specs.Schedule.{tell}
-use Rattle·outcome.specs.Whole.{settle, runOf, afterRun, outputOf, Ran}
-use Rattle·schedule·specs.specs.Pass.{PassIs}
+use Rattle.outcome.specs.declared.Outcome.{Outcome}
+use Rattle.outcome.specs.declared.Outcome.TheVariants.{Accepted, Refused}
+use Rattle.outcome.specs.Schedule.{tell}
+use Rattle.outcome.specs.Whole.{settle, run_of, after_run, output_of, Ran}
+use Rattle.schedule.specs.Pass.{PassIs}
 
 -- ---- what a pass that accepts has gathered
-module _ {s buffer buffer′ : List ℕ} {r : Outcome} (p : PassIs s buffer r buffer′) {w c e b : ℕ} (accepts : r ≡ Accepted w c e b) where
-  told : tell s .outcome ≡ Accepted w c e b
-  told = sym (p .outcome) ∙ accepts
+module _ {s buffer buffer' : List ℕ} {r : Outcome} (p : PassIs s buffer r buffer') {w c e b : ℕ} (accepts : r ≡ Accepted w c e b) where
+  told : (tell s).outcome ≡ Accepted w c e b
+  told = sym p.outcome ∙ accepts
 
-  pub bytes-there : b ≤ length buffer′
-  bytes-there =
-      let g = p .gathered w c e b accepts in
-      rw (g .output, length-append) (omega (arith, g .bytes))
+  pub bytes_there : b ≤ length buffer'
+  bytes_there =
+      let g = p.gathered w c e b accepts in
+      rw (g.output, length-append) (omega (arith, g.bytes))
 
-  in-front : take b buffer′ ≡ tell s .reports
-  in-front =
-      let g = p .gathered w c e b accepts in
-      rw (g .output) (take-at (tell s .reports) (drop (length (tell s .reports)) buffer) b (g .bytes))
+  in_front : take b buffer' ≡ (tell s).reports
+  in_front =
+      let g = p.gathered w c e b accepts in
+      rw g.output (take_at (tell s).reports (drop (length (tell s).reports) buffer) b g.bytes)
 
 -- ---- the ways out
 module _ {s out : List ℕ} where
-  ran-refused : (k n at present : ℕ) → Refused k n at present ≡ runOf s (length out) → Ran s out (Refused k n at present) out
-  unfolding outputOf afterRun
-  ran-refused k n at present e = record { outcome = e; output = rw (← e) }
+  ran_refused : (k n at present : ℕ) → Refused k n at present ≡ run_of s (length out) → Ran s out (Refused k n at present) out
+  unfolding output_of after_run
+  ran_refused k n at present e = record { outcome = e; output = rw (← e) }
 
-  pub ran-long : 65536 < length s → Ran s out (Refused 16 0 0 0) out
-  unfolding runOf
-  ran-long h = ran-refused 16 0 0 0 (rw (lt-ltb _ _ h))
+  pub ran_long : 65536 < length s → Ran s out (Refused 16 0 0 0) out
+  unfolding run_of
+  ran_long h = ran_refused 16 0 0 0 (rw (lt-ltb _ _ h))
 
-  module _ (short : length s ≤ 65536) {buffer buffer′ : List ℕ} {r : Outcome} (p : PassIs s buffer r buffer′) where
-    pub ran-fault : {k n at present : ℕ} → r ≡ Refused k n at present → Ran s out r out
-    unfolding runOf settle
-    ran-fault {k} {n} {at} {present} e =
-        let told : tell s .outcome ≡ Refused k n at present = sym (p .outcome) ∙ e in
-        rw e (ran-refused k n at present (rw (le-ltb _ _ short, told)))
+  module _ (short : length s ≤ 65536) {buffer buffer' : List ℕ} {r : Outcome} (p : PassIs s buffer r buffer') where
+    pub ran_fault : {k n at present : ℕ} → r ≡ Refused k n at present → Ran s out r out
+    unfolding run_of settle
+    ran_fault {k} {n} {at} {present} e =
+        let told : (tell s).outcome ≡ Refused k n at present = sym p.outcome ∙ e in
+        rw e (ran_refused k n at present (rw (le-ltb _ _ short, told)))
 
     module _ {w c e b : ℕ} (accepts : r ≡ Accepted w c e b) where
-      pub ran-narrow : length out < b → Ran s out (Refused 17 0 0 0) out
-      unfolding runOf settle
-      ran-narrow h = ran-refused 17 0 0 0 (rw (le-ltb _ _ short, told p accepts, lt-leb _ _ h))
+      pub ran_narrow : length out < b → Ran s out (Refused 17 0 0 0) out
+      unfolding run_of settle
+      ran_narrow h = ran_refused 17 0 0 0 (rw (le-ltb _ _ short, told p accepts, lt-leb _ _ h))
 
-      pub ran-whole : b ≤ length out → {out′ : List ℕ} → out′ ≡ take b buffer′ ++ drop b out → Ran s out (Accepted w c e b) out′
-      unfolding runOf settle outputOf afterRun
-      ran-whole room h =
-          let g = p .gathered w c e b accepts in
+      pub ran_whole : b ≤ length out → {out' : List ℕ} → out' ≡ take b buffer' ++ drop b out → Ran s out (Accepted w c e b) out'
+      unfolding run_of settle output_of after_run
+      ran_whole room h =
+          let g = p.gathered w c e b accepts in
           record {
             outcome = rw (le-ltb _ _ short, told p accepts, le-leb _ _ room);
-            output = rw (h, in-front p accepts, le-ltb _ _ short, told p accepts, le-leb _ _ room, g .bytes);
+            output = rw (h, in_front p accepts, le-ltb _ _ short, told p accepts, le-leb _ _ room, g.bytes);
           }
 
 -- ---- one byte more copied
 copied : (from out : List ℕ) (i : ℕ) → i < length from → i < length out
-    → set (take i from ++ drop i out) i (getD from i 0) ≡ take (suc i) from ++ drop (suc i) out
+    → set (take i from ++ drop i out) i (get_or from i 0) ≡ take (suc i) from ++ drop (suc i) out
 copied [] out i h l = absurd (omega arith)
 copied (x ∷ from) [] i h l = absurd (omega arith)
 copied (x ∷ from) (y ∷ out) zero h l = refl
@@ -72,13 +72,13 @@ pub record Copying (from out₀ : List ℕ) (n : ℕ) (out : List ℕ) (i : ℕ)
   pub long : length out ≡ length out₀
   pub front : out ≡ take i from ++ drop i out₀
 
-pub copying-more : {from out₀ out : List ℕ} {n i : ℕ} → Copying from out₀ n out i → i < n → n ≤ length from → n ≤ length out₀
-    → Copying from out₀ n (set out i (getD from i 0)) (i + 1)
-copying-more {from} {out₀} {out} {n} {i} g l h k = record {
+pub copying_more : {from out₀ out : List ℕ} {n i : ℕ} → Copying from out₀ n out i → i < n → n ≤ length from → n ≤ length out₀
+    → Copying from out₀ n (set out i (get_or from i 0)) (i + 1)
+copying_more {from} {out₀} {out} {n} {i} g l h k = record {
   within = omega arith;
-  long = simp length-set (g .long);
-  front = rw (g .front, add-one) (copied from out₀ i (omega arith) (omega arith));
+  long = simp length-set g.long;
+  front = rw (g.front, add-one) (copied from out₀ i (omega arith) (omega arith));
 }
 
-pub copying-whole : {from out₀ out : List ℕ} {n i : ℕ} → Copying from out₀ n out i → n ≤ i → out ≡ take n from ++ drop n out₀
-copying-whole {n = n} {i = i} g h = let all : i ≡ n = omega (arith, g .within) in rw all at (g .front)
+pub copying_whole : {from out₀ out : List ℕ} {n i : ℕ} → Copying from out₀ n out i → n ≤ i → out ≡ take n from ++ drop n out₀
+copying_whole {n = n} {i = i} g h = let all : i ≡ n = omega (arith, g.within) in rw all at g.front

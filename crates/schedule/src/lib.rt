@@ -1,33 +1,29 @@
 // Running a schedule over lent bytes, in one pass: its records are carried out in place, over arrays that stay where they are, and its
 // reports are gathered in a buffer that has room for those of any schedule. Where the schedule is accepted and the lent output has
 // room, they are copied to it.
-ghost use mathlib.Core.Path.{_≡_};
-ghost use mathlib.Core.List.{_++_};
-ghost use Prim.Native.Nat.{_≤_};
-ghost use lib.ListN.{length, take, drop};
-ghost use Rattle·moves.specs.Answer.{valuesOf};
-ghost use Rattle·in_place.specs.Seats.{seats};
-ghost use Rattle·in_place.specs.Held.{Lent, lent, runIn, Framed, Held};
-ghost use Rattle·records.specs.Writing.{bytesOf};
-ghost use Rattle·outcome.specs.declared.Outcome.the-variants.{Accepted, Refused};
-ghost use Rattle·outcome.specs.Step.{reportOf, closeNo, phaseNo, placeNo, stepOf};
-ghost use Rattle·outcome.specs.Schedule.{recordAt};
-ghost use Rattle·outcome.specs.Whole.{Ran};
-ghost use Rattle·schedule·specs.specs.Serving.{courseIn, RoomFor, Noted, Serves, Servable, ServesOpen, ServesEnter, TurnServable, ServesTurn, ServesClose};
-ghost use Rattle·schedule·specs.specs.Pass.{unreadAt, Passable, PassIs};
-use board::CELLS;
-use board::EXITS;
-use board::TOKENS;
-use in_place::Frame;
-use in_place::TABLE;
+#![tactic(auto)]
+
+ghost use Rattle.std.specs.Prelude.{◌≡◌, ◌++◌, ◌≤◌, length, take, drop};
+ghost use Rattle.moves.specs.Answer.{values_of};
+ghost use Rattle.in_place.specs.Seats.{seats};
+ghost use Rattle.in_place.specs.Held.{Lent, lent, run_in, Framed, Held};
+ghost use Rattle.records.specs.Writing.{bytes_of};
+ghost use Rattle.outcome.specs.declared.Outcome.TheVariants.{Accepted, Refused};
+ghost use Rattle.outcome.specs.Step.{report_of, close_no, phase_no, place_no, step_of};
+ghost use Rattle.outcome.specs.Schedule.{record_at};
+ghost use Rattle.outcome.specs.Whole.{Ran};
+ghost use Rattle.schedule.specs.Serving.{course_in, RoomFor, Noted, Serves, Servable, ServesOpen, ServesEnter, TurnServable, ServesTurn, ServesClose};
+ghost use Rattle.schedule.specs.Pass.{unread_at, Passable, PassIs};
+
+use board::{CELLS, EXITS, TOKENS};
+use in_place::{Frame, TABLE};
 use moves::Turn;
-use outcome::MAX_BYTES;
-use outcome::Outcome;
-use records::Read;
-use records::Record;
+use outcome::{MAX_BYTES, Outcome};
+use records::{Read, Record};
 
 // Where a schedule stands: phase 0 before the open, 1 after it, 2 after the close; what of its run is no array; the bytes of its
 // reports so far.
+#[derive(Clone, Copy)]
 struct Stage {
     phase: u8,
     frame: Frame,
@@ -35,6 +31,7 @@ struct Stage {
 }
 
 // What a record leaves: its refusal number, 0 where it was carried out, and where the schedule stands then.
+#[derive(Clone, Copy)]
 struct Served {
     number: u8,
     stage: Stage,
@@ -43,8 +40,8 @@ struct Served {
 // ---- reports
 // Puts a report behind those that fill the buffer so far; gives how far they go then.
 fn put_report(out: &mut [u8], filled: usize, report: Record) -> usize
-    requires { ⌜ RoomFor (bytesOf report) filled (now out) ⌝ }
-    ensures { λ r. ⌜ Noted (bytesOf report) filled (now (out .entry)) r (now (out .exit)) ⌝ }
+    requires { RoomFor (bytes_of report) filled out.old }
+    ensures { Noted (bytes_of report) filled out.old result out.new }
 {
     let next = filled + records::size_of(report);
     records::put_record(out, filled, report);
@@ -53,8 +50,8 @@ fn put_report(out: &mut [u8], filled: usize, report: Record) -> usize
 
 // The same of the report of a turn's answer, where a number was dealt.
 fn note(out: &mut [u8], filled: usize, token: u16, answer: Turn) -> usize
-    requires { ⌜ RoomFor (reportOf token answer) filled (now out) ⌝ }
-    ensures { λ r. ⌜ Noted (reportOf token answer) filled (now (out .entry)) r (now (out .exit)) ⌝ }
+    requires { RoomFor (report_of token answer) filled out.old }
+    ensures { Noted (report_of token answer) filled out.old result out.new }
 {
     match answer {
         Turn::Passed { .. } => filled,
@@ -72,8 +69,8 @@ fn note(out: &mut [u8], filled: usize, token: u16, answer: Turn) -> usize
 
 // ---- a record of each kind, in its phase
 fn serve_open(filled: usize, table: &mut [u8; TABLE], width: u16, construction: u16) -> Served
-    requires { ⌜ length (now table) ≡ 2304 ⌝ }
-    ensures { λ r. ⌜ ServesOpen width construction filled r (now (table .exit)) ⌝ }
+    requires { length table.old ≡ 2304 }
+    ensures { ServesOpen width construction filled result table.new }
 {
     let opened = in_place::open(table, width, construction);
     let frame = opened.frame;
@@ -96,8 +93,8 @@ fn serve_enter(
     token: u16,
     on: u16,
 ) -> Served
-    requires { ⌜ (stage .frame .entered ≤ 1000000) × Framed (stage .frame) (seats (now inside) (now level) (now wire)) ⌝ }
-    ensures { λ r. ⌜ ServesEnter stage (seats (now (inside .entry)) (now (level .entry)) (now (wire .entry))) token on r (seats (now (inside .exit)) (now (level .exit)) (now (wire .exit))) ⌝ }
+    requires { (stage.frame.entered ≤ 1000000) × Framed stage.frame (seats inside.old level.old wire.old) }
+    ensures { ServesEnter stage (seats inside.old level.old wire.old) token on result (seats inside.new level.new wire.new) }
 {
     let frame = stage.frame;
     let entered = in_place::enter(frame, inside, level, wire, token, on);
@@ -115,7 +112,7 @@ fn serve_enter(
 
 // The number of a turn's answer, 0 where the turn was carried out.
 fn refusal_of(answer: Turn) -> u8
-    ensures { λ r. ⌜ r ≡ valuesOf answer .refusal ⌝ }
+    ensures { result ≡ (values_of answer).refusal }
 {
     match answer {
         Turn::Passed { .. } => 0,
@@ -135,8 +132,8 @@ fn serve_turn(
     out: &mut [u8],
     token: u16,
 ) -> Served
-    requires { ⌜ TurnServable stage (lent (now table) (now toggles) (now counts) (seats (now inside) (now level) (now wire))) token (now out) ⌝ }
-    ensures { λ r. ⌜ ServesTurn stage (lent (now (table .entry)) (now (toggles .entry)) (now (counts .entry)) (seats (now (inside .entry)) (now (level .entry)) (now (wire .entry)))) token (now (out .entry)) r (lent (now (table .entry)) (now (toggles .exit)) (now (counts .exit)) (seats (now (inside .exit)) (now (level .exit)) (now (wire .exit)))) (now (out .exit)) ⌝ }
+    requires { TurnServable stage (lent table.now toggles.old counts.old (seats inside.old level.old wire.old)) token out.old }
+    ensures { ServesTurn stage (lent table.now toggles.old counts.old (seats inside.old level.old wire.old)) token out.old result (lent table.now toggles.new counts.new (seats inside.new level.new wire.new)) out.new }
 {
     let frame = stage.frame;
     let turned = in_place::turn(frame, table, toggles, counts, inside, level, wire, token);
@@ -158,7 +155,7 @@ fn serve_turn(
 // Why a close may not be: 15 while a token is inside or where the count is not the entries, or 0. The frame counts the tokens inside, so
 // no array is asked.
 fn close_refusal(frame: Frame, entered: u32) -> u8
-    ensures { λ r. ⌜ ((a : Lent) → Held frame a → r ≡ closeNo (runIn frame a) entered) ⌝ }
+    ensures { (a : Lent) → Held frame a → result ≡ close_no (run_in frame a) entered }
 {
     if frame.within != 0 {
         return 15;
@@ -170,7 +167,7 @@ fn close_refusal(frame: Frame, entered: u32) -> u8
 }
 
 fn serve_close(stage: Stage, entered: u32) -> Served
-    ensures { λ r. ⌜ ServesClose stage entered r ⌝ }
+    ensures { ServesClose stage entered result }
 {
     let frame = stage.frame;
     let number = close_refusal(frame, entered);
@@ -188,14 +185,14 @@ fn serve_close(stage: Stage, entered: u32) -> Served
 // ---- any record
 // 14 out of the phase that a record belongs to, or 0.
 fn out_of_phase(phase: u8, own: u8) -> u8
-    ensures { λ r. ⌜ r ≡ phaseNo own phase ⌝ }
+    ensures { result ≡ phase_no own phase }
 {
     if phase == own { 0 } else { 14 }
 }
 
 // Why a record may not stand in a phase: 13 for a report, 14 for any other out of its phase, or 0.
 fn misplaced(phase: u8, item: Record) -> u8
-    ensures { λ r. ⌜ r ≡ placeNo phase item ⌝ }
+    ensures { result ≡ place_no phase item }
 {
     match item {
         Record::Open {
@@ -224,8 +221,8 @@ fn serve(
     wire: &mut [u16; TOKENS],
     out: &mut [u8],
 ) -> Served
-    requires { ⌜ Servable stage (lent (now table) (now toggles) (now counts) (seats (now inside) (now level) (now wire))) item (now out) ⌝ }
-    ensures { λ r. ⌜ Serves (stepOf (courseIn stage (lent (now (table .entry)) (now (toggles .entry)) (now (counts .entry)) (seats (now (inside .entry)) (now (level .entry)) (now (wire .entry))))) item) (stage .filled) (now (out .entry)) r (lent (now (table .exit)) (now (toggles .exit)) (now (counts .exit)) (seats (now (inside .exit)) (now (level .exit)) (now (wire .exit)))) (now (out .exit)) ⌝ }
+    requires { Servable stage (lent table.old toggles.old counts.old (seats inside.old level.old wire.old)) item out.old }
+    ensures { Serves (step_of (course_in stage (lent table.old toggles.old counts.old (seats inside.old level.old wire.old))) item) stage.filled out.old result (lent table.new toggles.new counts.new (seats inside.new level.new wire.new)) out.new }
 {
     let number = misplaced(stage.phase, item);
     if number != 0 {
@@ -238,15 +235,7 @@ fn serve(
         } => serve_open(stage.filled, table, width, construction),
         Record::Enter { token, wire: on } => serve_enter(stage, inside, level, wire, token, on),
         Record::Turn { token } => serve_turn(
-            stage,
-            table,
-            toggles,
-            counts,
-            inside,
-            level,
-            wire,
-            out,
-            token,
+            stage, table, toggles, counts, inside, level, wire, out, token,
         ),
         Record::Close { entered } => serve_close(stage, entered),
         // never in its place
@@ -261,7 +250,7 @@ fn serve(
 // ---- outcomes
 // A refusal of a record that is not cut, or of no record.
 fn refused(number: u8, record: usize, offset: usize) -> Outcome
-    ensures { λ r. ⌜ r ≡ Refused number «record» offset 0 ⌝ }
+    ensures { result ≡ Refused number «record» offset 0 }
 {
     Outcome::Refused {
         number,
@@ -272,7 +261,7 @@ fn refused(number: u8, record: usize, offset: usize) -> Outcome
 }
 
 fn accepted(stage: Stage) -> Outcome
-    ensures { λ r. ⌜ r ≡ Accepted (stage .frame .width) (stage .frame .construction) (stage .frame .entered) (stage .filled) ⌝ }
+    ensures { result ≡ Accepted stage.frame.width stage.frame.construction stage.frame.entered stage.filled }
 {
     let frame = stage.frame;
     Outcome::Accepted {
@@ -286,7 +275,7 @@ fn accepted(stage: Stage) -> Outcome
 // ---- one pass
 // The record at an offset; behind the last byte there is none: 14.
 fn read_any(bytes: &[u8], at: usize) -> Read
-    ensures { λ r. ⌜ r ≡ recordAt (now (bytes .entry)) at ⌝ }
+    ensures { result ≡ record_at bytes.now at }
 {
     if bytes.len() <= at {
         return Read::Refused {
@@ -299,8 +288,8 @@ fn read_any(bytes: &[u8], at: usize) -> Read
 
 // The same; one that is whole and has the head of a turn, as nearly all have, is read where it stands.
 fn read_at(bytes: &[u8], at: usize) -> Read
-    requires { ⌜ at ≤ length (now bytes) ⌝ }
-    ensures { λ r. ⌜ r ≡ recordAt (now (bytes .entry)) at ⌝ }
+    requires { at ≤ length bytes.now }
+    ensures { result ≡ record_at bytes.now at }
 {
     if bytes.len() - at < 6 {
         return read_any(bytes, at);
@@ -318,7 +307,7 @@ fn read_at(bytes: &[u8], at: usize) -> Read
 
 // The outcome where a record is not read. It is asked of such a read alone.
 fn unread(read: Read, record: usize, offset: usize) -> Outcome
-    ensures { λ r. ⌜ r ≡ unreadAt read «record» offset ⌝ }
+    ensures { result ≡ unread_at read «record» offset }
 {
     match read {
         Read::Got(_, _) => refused(0, record, offset),
@@ -333,8 +322,8 @@ fn unread(read: Read, record: usize, offset: usize) -> Outcome
 
 // One pass over a schedule, which gathers its reports.
 fn pass(bytes: &[u8], out: &mut [u8]) -> Outcome
-    requires { ⌜ Passable (now bytes) (now out) ⌝ }
-    ensures { λ r. ⌜ PassIs (now (bytes .entry)) (now (out .entry)) r (now (out .exit)) ⌝ }
+    requires { Passable bytes.now out.old }
+    ensures { PassIs bytes.now out.old result out.new }
 {
     let frame = in_place::no_frame();
     let mut stage = Stage {
@@ -382,8 +371,8 @@ fn pass(bytes: &[u8], out: &mut [u8]) -> Outcome
 
 // ---- the whole call
 fn copy(out: &mut [u8], from: &[u8], n: usize)
-    requires { ⌜ (n ≤ length (now from)) × (n ≤ length (now out)) ⌝ }
-    ensures { λ _. ⌜ now (out .exit) ≡ take n (now (from .entry)) ++ drop n (now (out .entry)) ⌝ }
+    requires { (n ≤ length from.now) × (n ≤ length out.old) }
+    ensures { out.new ≡ take n from.now ++ drop n out.old }
 {
     let mut i = 0;
     while i < n {
@@ -394,7 +383,7 @@ fn copy(out: &mut [u8], from: &[u8], n: usize)
 
 // Runs a schedule: judges it whole, and then hands over its reports.
 pub fn run(bytes: &[u8], out: &mut [u8]) -> Outcome
-    ensures { λ r. ⌜ Ran (now (bytes .entry)) (now (out .entry)) r (now (out .exit)) ⌝ }
+    ensures { Ran bytes.now out.old result out.new }
 {
     if MAX_BYTES < bytes.len() {
         return refused(16, 0, 0);

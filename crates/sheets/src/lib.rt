@@ -1,18 +1,18 @@
 // The sheet of a network, and the view of one row of a lent sheet.
 // Every call answers every argument; a refusal changes no lent byte.
-ghost use mathlib.Core.Path.{_≡_};
-ghost use Prim.Native.Nat.{_*_, _≤_};
-ghost use mathlib.Core.List.{_++_};
-ghost use lib.ListN.{length, take, drop};
-ghost use Rattle·network.specs.Widths.{openNo, depthOf};
-ghost use Rattle·network.specs.Rows.{placeOf, rows};
-ghost use Rattle·sheets·specs.specs.Sheets.{sheetLength, sheetNo, SheetIs, viewNo, chosen, ViewIs};
+#![tactic(auto)]
+
+ghost use Rattle.std.specs.Prelude.{◌≡◌, ◌*◌, ◌≤◌, ◌++◌, length, take, drop};
+ghost use Rattle.network.specs.Widths.{open_no, depth_of};
+ghost use Rattle.network.specs.Rows.{place_of, rows};
+ghost use Rattle.sheets.specs.Sheets.{sheet_length, sheet_no, SheetIs, view_no, chosen, ViewIs};
+
 use order::Filled;
 
 // A row, from an array, into a part of a sheet.
 pub fn put_row(out: &mut [u8], row: [u8; network::ROW])
-    requires { ⌜ length (now out) ≤ 64 ⌝ }
-    ensures { λ _. ⌜ now (out .exit) ≡ take (length (now (out .entry))) row ⌝ }
+    requires { length out.old ≤ 64 }
+    ensures { out.new ≡ take (length out.old) row }
 {
     let mut i = 0;
     while i < out.len() {
@@ -23,8 +23,8 @@ pub fn put_row(out: &mut [u8], row: [u8; network::ROW])
 
 // The rows of all layers.
 fn put_rows(width: u16, construction: u16, depth: u16, out: &mut [u8])
-    requires { ⌜ (depth ≡ depthOf width construction) × (depth * width ≤ length (now out)) ⌝ }
-    ensures { λ _. ⌜ now (out .exit) ≡ rows (placeOf width construction) width depth ++ drop (depth * width) (now (out .entry)) ⌝ }
+    requires { (depth ≡ depth_of width construction) × (depth * width ≤ length out.old) }
+    ensures { out.new ≡ rows (place_of width construction) width depth ++ drop (depth * width) out.old }
 {
     let w = width as usize;
     let mut layer = 0u16;
@@ -39,14 +39,14 @@ fn put_rows(width: u16, construction: u16, depth: u16, out: &mut [u8])
 
 // The bytes of a sheet; 0 where the width is not allowed.
 fn sheet_length(width: u16, construction: u16) -> usize
-    ensures { λ r. ⌜ r ≡ sheetLength width construction ⌝ }
+    ensures { result ≡ sheet_length width construction }
 {
     let depth = network::depth_of(width, construction);
     (depth as usize) * (width as usize)
 }
 
 fn sheet_refusal(width: u16, construction: u16, room: usize) -> u8
-    ensures { λ r. ⌜ r ≡ sheetNo width construction room ⌝ }
+    ensures { result ≡ sheet_no width construction room }
 {
     let refusal = network::open_refusal(width, construction);
     if refusal != 0 {
@@ -60,7 +60,7 @@ fn sheet_refusal(width: u16, construction: u16, room: usize) -> u8
 
 // The sheet: the rows in layer order, in front of the lent bytes.
 pub fn sheet(width: u16, construction: u16, out: &mut [u8]) -> Filled
-    ensures { λ r. ⌜ SheetIs width construction (now (out .entry)) (now (out .exit)) r ⌝ }
+    ensures { SheetIs width construction out.old out.new result }
 {
     let refusal = sheet_refusal(width, construction, out.len());
     if refusal != 0 {
@@ -76,7 +76,7 @@ pub fn sheet(width: u16, construction: u16, out: &mut [u8]) -> Filled
 
 // The refusal number of a view of a sheet of that many bytes.
 fn view_check(width: u16, construction: u16, layer: u16, room: usize) -> u8
-    ensures { λ r. ⌜ r ≡ viewNo width construction layer room ⌝ }
+    ensures { result ≡ view_no width construction layer room }
 {
     let refusal = network::open_refusal(width, construction);
     if refusal != 0 {
@@ -99,7 +99,7 @@ pub fn view_refusal(
     bitonic: &[u8],
     periodic: &[u8],
 ) -> u8
-    ensures { λ r. ⌜ r ≡ viewNo width construction layer (length (chosen construction (now (bitonic .entry)) (now (periodic .entry)))) ⌝ }
+    ensures { result ≡ view_no width construction layer (length (chosen construction bitonic.now periodic.now)) }
 {
     if construction == 1 {
         return view_check(width, construction, layer, bitonic.len());
@@ -109,7 +109,7 @@ pub fn view_refusal(
 
 // The row in one sheet, or nothing.
 fn row_in<'a>(width: u16, construction: u16, layer: u16, sheet: &'a [u8]) -> &'a [u8]
-    ensures { λ r. ⌜ ViewIs width construction layer (now (sheet .entry)) (sheet .entry .ptr) (now r) (r .ptr) ⌝ }
+    ensures { ViewIs width construction layer sheet.now sheet.entry.ref_ptr result.now result.ref_ptr }
 {
     if view_check(width, construction, layer, sheet.len()) != 0 {
         return &sheet[0..0];
@@ -128,7 +128,7 @@ pub fn view<'a>(
     bitonic: &'a [u8],
     periodic: &'a [u8],
 ) -> &'a [u8]
-    ensures { λ r. ⌜ ViewIs width construction layer (chosen construction (now (bitonic .entry)) (now (periodic .entry))) (chosen construction (bitonic .entry .ptr) (periodic .entry .ptr)) (now r) (r .ptr) ⌝ }
+    ensures { ViewIs width construction layer (chosen construction bitonic.now periodic.now) (chosen construction bitonic.entry.ref_ptr periodic.entry.ref_ptr) result.now result.ref_ptr }
 {
     if construction == 1 {
         return row_in(width, construction, layer, bitonic);

@@ -1,64 +1,60 @@
 -- The small cabinet (02, P6): a run with a dial at each exit. Opening, enter, turn and poll. It is sound where its run is: dials are
 -- not judged. Definitions only. Assumes nothing.
-use Prim.Native.Nat.{ℕ}
-use mathlib.Core.Bool.{not, cond}
-use mathlib.Core.List.{List, [], _∷_}
-use lib.Dec.{eqb, leb}
-use lib.ListN.{getD, set, replicate}
-use Rattle·order.specs.Order.{_⟶_, firstOf}
-use Rattle·moves.specs.Answer.{Values, valuesOf}
-use Rattle·run.specs.declared.Run.{Run}
-use Rattle·run.specs.Run.{openOf, sound, enterOf, turnOf}
-use Rattle·dials.specs.declared.Dial.{Dial}
-use Rattle·dials.specs.Dials.{openDial, advanceOf, yieldOf, pollOf}
-use Rattle·small·specs.specs.declared.Cabinet.{Cabinet}
-use Rattle·small·specs.specs.declared.Opened.{Opened}
-use Rattle·small·specs.specs.declared.Entered.{Entered}
-use Rattle·small·specs.specs.declared.Turned.{Turned}
-use Rattle·small·specs.specs.declared.Polled.{Polled}
+use Rattle.std.specs.Prelude.{ℕ, not, cond, List, [], ◌∷◌, eqb, leb, get_or, set, replicate}
+use Rattle.order.specs.Order.{◌⟶◌, first_of}
+use Rattle.moves.specs.Answer.{Values, values_of}
+use Rattle.run.specs.declared.Run.{Run}
+use Rattle.run.specs.Run.{open_of, sound, enter_of, turn_of}
+use Rattle.dials.specs.declared.Dial.{Dial}
+use Rattle.dials.specs.Dials.{open_dial, advance_of, yield_of, poll_of}
+use Rattle.small.specs.declared.Cabinet.{Cabinet}
+use Rattle.small.specs.declared.Opened.{Opened}
+use Rattle.small.specs.declared.Entered.{Entered}
+use Rattle.small.specs.declared.Turned.{Turned}
+use Rattle.small.specs.declared.Polled.{Polled}
 
-abbrev pub cabinetOf : Run → List Dial → Cabinet
-cabinetOf x ds = record { run = x; dials = ds }
+abbrev pub cabinet_of : Run → List Dial → Cabinet
+cabinet_of x ds = record { run = x; dials = ds }
 
 -- the dial of exit i
-abbrev pub dialAt : List Dial → ℕ → Dial
-dialAt ds i = getD ds i openDial
+abbrev pub dial_at : List Dial → ℕ → Dial
+dial_at ds i = get_or ds i open_dial
 
 -- opening: 1, 2; also of a refused one dials and last readings are 0
-unfoldable pub openSmall : ℕ → ℕ → Opened
-openSmall w c = record { refusal = openOf w c .refusal; cabinet = cabinetOf (openOf w c .run) (replicate 64 openDial) }
+unfoldable pub open_small : ℕ → ℕ → Opened
+open_small w c = record { refusal = (open_of w c).refusal; cabinet = cabinet_of (open_of w c).run (replicate 64 open_dial) }
 
 -- token t on entry wire v: 9, 4, 5, 6, 7
-unfoldable pub enterSmall : Cabinet → ℕ → ℕ → Entered
-enterSmall x t v =
-    let e = enterOf (x .run) t v in
-    record { refusal = e .refusal; cabinet = cabinetOf (e .run) (x .dials) }
+unfoldable pub enter_small : Cabinet → ℕ → ℕ → Entered
+enter_small x t v =
+    let e = enter_of x.run t v in
+    record { refusal = e.refusal; cabinet = cabinet_of e.run x.dials }
 
 -- where a number is dealt at exit i, dial i goes on by one
-abbrev pub advancedAt : List Dial → ℕ → List Dial
-advancedAt ds i = set ds i (advanceOf (dialAt ds i))
+abbrev pub advanced_at : List Dial → ℕ → List Dial
+advanced_at ds i = set ds i (advance_of (dial_at ds i))
 
-unfoldable pub dialsAfter : List Dial → Values → List Dial
-dialsAfter ds a = cond (a .dealt) (advancedAt ds (a .exit)) ds
+unfoldable pub dials_after : List Dial → Values → List Dial
+dials_after ds a = cond a.dealt (advanced_at ds a.exit) ds
 
 -- a turn of token t: 9, 4, 8
-unfoldable pub turnSmall : Cabinet → ℕ → Turned
-turnSmall x t =
-    let m = turnOf (x .run) t in
-    record { answer = m .answer; cabinet = cabinetOf (m .run) (dialsAfter (x .dials) (valuesOf (m .answer))) }
+unfoldable pub turn_small : Cabinet → ℕ → Turned
+turn_small x t =
+    let m = turn_of x.run t in
+    record { answer = m.answer; cabinet = cabinet_of m.run (dials_after x.dials (values_of m.answer)) }
 
 -- a poll of exit i: 9 record not sound; 5 exit not below the width
-unfoldable pub pollNo : Cabinet → ℕ → ℕ
-pollNo x i = firstOf ((not (sound (x .run)) ⟶ 9) ∷ (leb (x .run .width) i ⟶ 5) ∷ [])
+unfoldable pub poll_no : Cabinet → ℕ → ℕ
+poll_no x i = first_of ((not (sound x.run) ⟶ 9) ∷ (leb x.run.width i ⟶ 5) ∷ [])
 
-abbrev pub polledAt : List Dial → ℕ → List Dial
-polledAt ds i = set ds i (pollOf (dialAt ds i) .dial)
+abbrev pub polled_at : List Dial → ℕ → List Dial
+polled_at ds i = set ds i (poll_of (dial_at ds i)).dial
 
-unfoldable pub pollSmall : Cabinet → ℕ → Polled
-pollSmall x i =
-    let n = pollNo x i in
+unfoldable pub poll_small : Cabinet → ℕ → Polled
+poll_small x i =
+    let n = poll_no x i in
     record {
       refusal = n;
-      yielded = cond (eqb n 0) (yieldOf (dialAt (x .dials) i)) 0;
-      cabinet = cabinetOf (x .run) (cond (eqb n 0) (polledAt (x .dials) i) (x .dials));
+      yielded = cond (eqb n 0) (yield_of (dial_at x.dials i)) 0;
+      cabinet = cabinet_of x.run (cond (eqb n 0) (polled_at x.dials i) x.dials);
     }

@@ -1,14 +1,14 @@
 // Text, put into a lent buffer. Each `put` lets its text go into the buffer from a place on, as far as the buffer goes, and
 // answers the place behind it: on a buffer of no use it so tells how much room the text wants.
-ghost use Prim.Native.Nat.{_<_};
-ghost use mathlib.Core.Path.{_≡_};
-ghost use mathlib.Core.List.{_++_, _∷_, []};
-ghost use Rattle·text·specs.specs.Text.{nextPlace, Puts};
-ghost use Rattle·text·specs.specs.Numbers.{decimal, row, hexDigit, hexPair, hexText};
-ghost use Rattle·text·specs.specs.Lists.{numberList, commaIf, dashUnless};
+#![tactic(auto)]
+
+ghost use Rattle.std.specs.Prelude.{◌<◌, ◌≡◌, ◌++◌, ◌∷◌, []};
+ghost use Rattle.text.specs.Text.{next_place, Puts};
+ghost use Rattle.text.specs.Numbers.{decimal, row, hex_digit, hex_pair, hex_text};
+ghost use Rattle.text.specs.Lists.{number_list, comma_if, dash_unless};
 
 fn next_place(at: usize) -> usize
-    ensures { λ r. ⌜ r ≡ nextPlace at ⌝ }
+    ensures { result ≡ next_place at }
 {
     if at < usize::MAX {
         return at + 1;
@@ -17,7 +17,7 @@ fn next_place(at: usize) -> usize
 }
 
 pub fn put_byte(out: &mut [u8], at: usize, b: u8) -> usize
-    ensures { λ r. ⌜ Puts (b ∷ []) at (now (out .entry)) r (now (out .exit)) ⌝ }
+    ensures { Puts (b ∷ []) at out.old result out.new }
 {
     let next = next_place(at);
     if at < out.len() {
@@ -28,7 +28,7 @@ pub fn put_byte(out: &mut [u8], at: usize, b: u8) -> usize
 }
 
 pub fn put_text(out: &mut [u8], at: usize, text: &[u8]) -> usize
-    ensures { λ r. ⌜ Puts (now (text .entry)) at (now (out .entry)) r (now (out .exit)) ⌝ }
+    ensures { Puts text.now at out.old result out.new }
 {
     let mut next = at;
     let mut i = 0;
@@ -43,7 +43,7 @@ pub fn put_text(out: &mut [u8], at: usize, text: &[u8]) -> usize
 
 // The digits of the tenth, then the last one.
 pub fn put_decimal(out: &mut [u8], at: usize, x: usize) -> usize
-    ensures { λ r. ⌜ Puts (decimal x) at (now (out .entry)) r (now (out .exit)) ⌝ }
+    ensures { Puts (decimal x) at out.old result out.new }
 {
     if x < 10 {
         return put_byte(out, at, 48 + x as u8);
@@ -54,7 +54,7 @@ pub fn put_decimal(out: &mut [u8], at: usize, x: usize) -> usize
 
 // A number and the byte behind it.
 pub fn put_number(out: &mut [u8], at: usize, x: usize, end: u8) -> usize
-    ensures { λ r. ⌜ Puts (decimal x ++ (end ∷ [])) at (now (out .entry)) r (now (out .exit)) ⌝ }
+    ensures { Puts (decimal x ++ (end ∷ [])) at out.old result out.new }
 {
     let next = put_decimal(out, at, x);
     put_byte(out, next, end)
@@ -62,7 +62,7 @@ pub fn put_number(out: &mut [u8], at: usize, x: usize, end: u8) -> usize
 
 // Numbers, a blank in front of each.
 pub fn put_row(out: &mut [u8], at: usize, values: &[usize]) -> usize
-    ensures { λ r. ⌜ Puts (row (now (values .entry))) at (now (out .entry)) r (now (out .exit)) ⌝ }
+    ensures { Puts (row values.now) at out.old result out.new }
 {
     let mut next = at;
     let mut i = 0;
@@ -77,8 +77,8 @@ pub fn put_row(out: &mut [u8], at: usize, values: &[usize]) -> usize
 // ---- bytes in hex
 
 fn hex_digit(value: u8) -> u8
-    requires { ⌜ value < 16 ⌝ }
-    ensures { λ r. ⌜ r ≡ hexDigit value ⌝ }
+    requires { value < 16 }
+    ensures { result ≡ hex_digit value }
 {
     if value < 10 {
         return 48 + value;
@@ -87,7 +87,7 @@ fn hex_digit(value: u8) -> u8
 }
 
 fn put_pair(out: &mut [u8], at: usize, value: u8) -> usize
-    ensures { λ r. ⌜ Puts (hexPair value) at (now (out .entry)) r (now (out .exit)) ⌝ }
+    ensures { Puts (hex_pair value) at out.old result out.new }
 {
     let next = put_byte(out, at, hex_digit(value / 16));
     put_byte(out, next, hex_digit(value % 16))
@@ -95,7 +95,7 @@ fn put_pair(out: &mut [u8], at: usize, value: u8) -> usize
 
 // Pairs of hex digits; `-` where there are no bytes.
 pub fn put_hex(out: &mut [u8], at: usize, bytes: &[u8]) -> usize
-    ensures { λ r. ⌜ Puts (hexText (now (bytes .entry))) at (now (out .entry)) r (now (out .exit)) ⌝ }
+    ensures { Puts (hex_text bytes.now) at out.old result out.new }
 {
     let mut next = at;
     let mut i = 0;
@@ -110,7 +110,7 @@ pub fn put_hex(out: &mut [u8], at: usize, bytes: &[u8]) -> usize
 
 // The comma in front of an entry.
 pub fn put_comma(out: &mut [u8], at: usize, some: bool) -> usize
-    ensures { λ r. ⌜ Puts (commaIf some) at (now (out .entry)) r (now (out .exit)) ⌝ }
+    ensures { Puts (comma_if some) at out.old result out.new }
 {
     if some {
         return put_byte(out, at, b',');
@@ -120,7 +120,7 @@ pub fn put_comma(out: &mut [u8], at: usize, some: bool) -> usize
 
 // The dash of a list that has ended with no entry.
 pub fn put_dash(out: &mut [u8], at: usize, some: bool) -> usize
-    ensures { λ r. ⌜ Puts (dashUnless some) at (now (out .entry)) r (now (out .exit)) ⌝ }
+    ensures { Puts (dash_unless some) at out.old result out.new }
 {
     if some {
         return at;
@@ -130,7 +130,7 @@ pub fn put_dash(out: &mut [u8], at: usize, some: bool) -> usize
 
 // Numbers with commas between them; `-` where there are none.
 pub fn put_list(out: &mut [u8], at: usize, numbers: &[u32]) -> usize
-    ensures { λ r. ⌜ Puts (numberList (now (numbers .entry))) at (now (out .entry)) r (now (out .exit)) ⌝ }
+    ensures { Puts (number_list numbers.now) at out.old result out.new }
 {
     let mut next = at;
     let mut i = 0;

@@ -1,24 +1,26 @@
 // The trace program: reads a schedule from standard input and writes its trace to standard output. It stops reading behind byte
 // 65,537, which is enough to refuse by 16 whatever follows.
-ghost use mathlib.Core.Path.{_≡_};
-ghost use Prim.Native.Nat.{_≤_};
-ghost use lib.ListN.{length};
-ghost use Rattle·listing_text.specs.Listing.{Whole};
-ghost use Rattle·trace_text.specs.Trace.{traceOf};
+#![tactic(auto)]
+
+ghost use Rattle.std.specs.Prelude.{◌≡◌, ◌≤◌, length};
+ghost use Rattle.listing_text.specs.Listing.{Whole};
+ghost use Rattle.trace_text.specs.Trace.{trace_of};
+
+use std::io;
 
 // Fills the trace into a buffer that has room for every one, and answers its length.
 fn trace_all(bytes: &[u8], out: &mut [u8]) -> usize
-    requires { ⌜ 1500000 ≤ length (now out) ⌝ }
-    ensures { λ r. ⌜ Whole (traceOf (now (bytes .entry))) (now (out .entry)) r (now (out .exit)) ⌝ }
+    requires { 1500000 ≤ length out.old }
+    ensures { Whole (trace_of bytes.now) out.old result out.new }
 {
     let traced = trace_text::trace(bytes, out);
     traced.bytes
 }
 
-fn main() {
-    let mut input = [0u8; 65537];
-    let n = io::read_full(0, &mut input);
-    let mut out = [0u8; 1500000];
+fn main(rt: HostRuntime) -> io::Result<()> {
+    let mut input: [u8; 65537] = streams::zeros();
+    let n = streams::read_full(&mut rt.stdin(), &mut input)?;
+    let mut out: [u8; 1500000] = streams::zeros();
     let filled = trace_all(&input[..n], &mut out);
-    io::write_all(1, &out[..filled]);
+    rt.write_all(&out[..filled])
 }

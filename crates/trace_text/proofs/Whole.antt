@@ -1,48 +1,48 @@
 -- Laws of the whole trace. In order: the most bytes of a text; the text of what was run. Assumes nothing.
-use Prim.Native.Nat.{ℕ, _*_, _^_, _≤_, _<_}
-use mathlib.Core.Path.{_≡_, refl}
+use Prim.Native.Nat.{ℕ, ◌*◌, ◌^◌, ◌≤◌, ◌<◌}
+use mathlib.Core.Path.{◌≡◌, refl}
 use mathlib.Core.List.{List}
 use native.Mathlib.Omega.{arith}
 use lib.ListN.{length, length-append}
-use Rattle·outcome.specs.declared.Outcome.{Outcome}
-use Rattle·outcome.specs.declared.Outcome.the-variants.{Accepted, Refused}
-use Rattle·outcome.specs.Course.{atStart}
-use Rattle·outcome.specs.Whole.{runOf, Ran}
-use Rattle·text.specs.Text.{stored, Puts}
-use Rattle·listing_text.proofs.Told.{run-short}
-use Rattle·listing_text.proofs.Whole.{length-network, length-rest, length-refused, text-wanted}
-use Rattle·trace_text·specs.specs.Lines.{turnLines}
-use Rattle·trace_text·specs.specs.Trace.{acceptedText, textOf, traceOf}
-use Rattle·trace_text·proofs.proofs.Lines.{length-lines}
+use Rattle.outcome.specs.declared.Outcome.{Outcome}
+use Rattle.outcome.specs.declared.Outcome.TheVariants.{Accepted, Refused}
+use Rattle.outcome.specs.Course.{at_start}
+use Rattle.outcome.specs.Whole.{run_of, Ran}
+use Rattle.text.specs.Text.{stored, Puts}
+use Rattle.listing_text.proofs.Told.{run_short}
+use Rattle.listing_text.proofs.Whole.{length_network, length_rest, length_refused, text_wanted}
+use Rattle.trace_text.specs.Lines.{turn_lines}
+use Rattle.trace_text.specs.Trace.{accepted_text, text_of, trace_of}
+use Rattle.trace_text.proofs.Lines.{length_lines}
 
 -- ---- the most bytes
-length-turns : (s : List ℕ) → length (turnLines s) ≤ 22 * length s
-unfolding turnLines
-length-turns s = omega (arith, length-lines (length s) s (atStart .run) 0 (omega arith))
+length_turns : (s : List ℕ) → length (turn_lines s) ≤ 22 * length s
+unfolding turn_lines
+length_turns s = omega (arith, length_lines (length s) s at_start.run 0 (omega arith))
 
-text-most : (o : Outcome) (s : List ℕ) → ((w c e b : ℕ) → o ≡ Accepted w c e b → length s ≤ 65536) → length (textOf o s) ≤ 1500000
-unfolding textOf acceptedText
-text-most (Accepted w c e b) s few =
+text_most : (o : Outcome) (s : List ℕ) → ((w c e b : ℕ) → o ≡ Accepted w c e b → length s ≤ 65536) → length (text_of o s) ≤ 1500000
+unfolding text_of accepted_text
+text_most (Accepted w c e b) s few =
     let short = few w c e b refl in
-    simp length-append (omega (arith, length-turns s, length-network w c, length-rest e))
-text-most (Refused k n at present) s few = omega (arith, length-refused k n at)
+    simp length-append (omega (arith, length_turns s, length_network w c, length_rest e))
+text_most (Refused k n at present) s few = omega (arith, length_refused k n at)
 
-pub trace-most : (s : List ℕ) → length (traceOf s) ≤ 1500000
-unfolding traceOf
-trace-most s = text-most (runOf s 65536) s (λ w c e b h. run-short s 65536 w c e b h)
+pub trace_most : (s : List ℕ) → length (trace_of s) ≤ 1500000
+unfolding trace_of
+trace_most s = text_most (run_of s 65536) s (λ w c e b h. run_short s 65536 w c e b h)
 
-pub trace-few : (s : List ℕ) → length (traceOf s) < 2 ^ 64
-trace-few s = omega (arith, trace-most s)
+pub trace_few : (s : List ℕ) → length (trace_of s) < 2 ^ 64
+trace_few s = omega (arith, trace_most s)
 
 -- ---- the text of what was run into a buffer of the program's own
 module _ {s buffer reports : List ℕ} {o : Outcome} (room : length buffer ≡ 65536) (ran : Ran s buffer o reports) where
-  ran-text : traceOf s ≡ textOf o s
-  unfolding traceOf
-  ran-text = rw (ran .outcome, room)
+  ran_text : trace_of s ≡ text_of o s
+  unfolding trace_of
+  ran_text = rw (ran.outcome, room)
 
-  module _ {before after : List ℕ} {next : ℕ} (p : Puts (textOf o s) 0 before next after) where
-    pub wanted-is : next ≡ length (traceOf s)
-    wanted-is = rw ran-text (text-wanted (rw (← ran-text) (trace-few s)) p)
+  module _ {before after : List ℕ} {next : ℕ} (p : Puts (text_of o s) 0 before next after) where
+    pub wanted_is : next ≡ length (trace_of s)
+    wanted_is = rw ran_text (text_wanted (rw (← ran_text) (trace_few s)) p)
 
-    pub filled-is : after ≡ stored before 0 (traceOf s)
-    filled-is = rw ran-text (p .buffer)
+    pub filled_is : after ≡ stored before 0 (trace_of s)
+    filled_is = rw ran_text p.buffer

@@ -1,28 +1,26 @@
 -- The lines of a trace: one for each turn. Definitions only. Assumes nothing.
-use Prim.Native.Nat.{ℕ, zero, suc, _+_}
-use mathlib.Core.List.{List, [], _++_}
-use lib.ListN.{length}
-use Rattle·moves.specs.declared.Turn.{Turn}
-use Rattle·moves.specs.declared.Turn.the-variants.{Passed, Dealt, Refused}
-use Rattle·run.specs.declared.Run.{Run}
-use Rattle·run.specs.Run.{turnOf}
-use Rattle·records.specs.declared.Record.{Record}
-use Rattle·records.specs.declared.Record.the-variants.{Open, Enter, Turn as TurnRecord, Close, Number}
-use Rattle·records.specs.declared.Read.{Read}
-use Rattle·records.specs.declared.Read.the-variants.{Got, Refused as Unread}
-use Rattle·outcome.specs.Course.{atStart}
-use Rattle·outcome.specs.Step.{servedOf}
-use Rattle·outcome.specs.Schedule.{recordAt}
-use Rattle·text.specs.Text.{letters}
-use Rattle·text.specs.Numbers.{decimal}
+use Rattle.std.specs.Prelude.{ℕ, zero, suc, ◌+◌, List, [], ◌++◌, length}
+use Rattle.moves.specs.declared.Turn.{Turn}
+use Rattle.moves.specs.declared.Turn.TheVariants.{Passed, Dealt, Refused}
+use Rattle.run.specs.declared.Run.{Run}
+use Rattle.run.specs.Run.{turn_of}
+use Rattle.records.specs.declared.Record.{Record}
+use Rattle.records.specs.declared.Record.TheVariants.{Open, Enter, Turn as TurnRecord, Close, Number}
+use Rattle.records.specs.declared.Read.{Read}
+use Rattle.records.specs.declared.Read.TheVariants.{Got, Refused as Unread}
+use Rattle.outcome.specs.Course.{at_start}
+use Rattle.outcome.specs.Step.{served_of}
+use Rattle.outcome.specs.Schedule.{record_at}
+use Rattle.text.specs.Text.{letters}
+use Rattle.text.specs.Numbers.{decimal}
 
 -- a number behind the word that says what it is
 unfoldable pub named : List ℕ → ℕ → List ℕ
 named word x = word ++ decimal x
 
 -- T layer L cell C outlet S wire V: the cell that token t passed, the outlet, 0 the top, and the wire that it is on then
-unfoldable pub passedLine : ℕ → ℕ → ℕ → ℕ → ℕ → List ℕ
-passedLine t layer cell outlet wire =
+unfoldable pub passed_line : ℕ → ℕ → ℕ → ℕ → ℕ → List ℕ
+passed_line t layer cell outlet wire =
     decimal t
     ++ (named (letters " layer ") layer
     ++ (named (letters " cell ") cell
@@ -31,33 +29,33 @@ passedLine t layer cell outlet wire =
     ++ letters "\n"))))
 
 -- T exit E number N: the number that token t was dealt
-unfoldable pub dealtLine : ℕ → ℕ → ℕ → List ℕ
-dealtLine t exit number = decimal t ++ (named (letters " exit ") exit ++ (named (letters " number ") number ++ letters "\n"))
+unfoldable pub dealt_line : ℕ → ℕ → ℕ → List ℕ
+dealt_line t exit number = decimal t ++ (named (letters " exit ") exit ++ (named (letters " number ") number ++ letters "\n"))
 
 -- the line of a turn's answer; a refused turn, of which an accepted schedule has none, has no line
-unfoldable pub turnLine : ℕ → Turn → List ℕ
-turnLine t (Passed l v L c s) = passedLine t L c s v
-turnLine t (Dealt i n) = dealtLine t i n
-turnLine t (Refused k) = []
+unfoldable pub turn_line : ℕ → Turn → List ℕ
+turn_line t (Passed l v L c s) = passed_line t L c s v
+turn_line t (Dealt i n) = dealt_line t i n
+turn_line t (Refused k) = []
 
 -- the line of a record, with the run before it
-unfoldable pub lineOf : Run → Record → List ℕ
-lineOf x (Open w c) = []
-lineOf x (Enter t v) = []
-lineOf x (TurnRecord t) = turnLine t (turnOf x t .answer)
-lineOf x (Close e) = []
-lineOf x (Number t v n) = []
+unfoldable pub line_of : Run → Record → List ℕ
+line_of x (Open w c) = []
+line_of x (Enter t v) = []
+line_of x (TurnRecord t) = turn_line t (turn_of x t).answer
+line_of x (Close e) = []
+line_of x (Number t v n) = []
 
-unfoldable pub onRecord : Read → (Record → ℕ → List ℕ) → List ℕ
-onRecord (Got r len) f = f r len
-onRecord (Unread k present) f = []
+unfoldable pub on_record : Read → (Record → ℕ → List ℕ) → List ℕ
+on_record (Got r len) f = f r len
+on_record (Unread k present) f = []
 
 -- From the record at an offset on, with the run x: its line, and the lines behind it with the run that it leaves. The first argument
 -- bounds the records still to come; there are at most as many as bytes.
-unfoldable pub linesFrom : ℕ → List ℕ → Run → ℕ → List ℕ
-linesFrom zero s x at = []
-linesFrom (suc more) s x at =
-    onRecord (recordAt s at) (λ r len. lineOf x r ++ linesFrom more s (servedOf x r .course .run) (at + len))
+unfoldable pub lines_from : ℕ → List ℕ → Run → ℕ → List ℕ
+lines_from zero s x at = []
+lines_from (suc more) s x at =
+    on_record (record_at s at) (λ r len. line_of x r ++ lines_from more s (served_of x r).course.run (at + len))
 
-unfoldable pub turnLines : List ℕ → List ℕ
-turnLines s = linesFrom (length s) s (atStart .run) 0
+unfoldable pub turn_lines : List ℕ → List ℕ
+turn_lines s = lines_from (length s) s at_start.run 0

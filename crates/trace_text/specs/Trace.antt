@@ -1,21 +1,20 @@
 -- What the trace program writes for a schedule: as the listing, with a line for each turn in place of those of the reports.
 -- Definitions only. Assumes nothing.
-use mathlib.Core.List.{List, _++_}
-use Prim.Native.Nat.{ℕ}
-use Rattle·outcome.specs.declared.Outcome.{Outcome}
-use Rattle·outcome.specs.declared.Outcome.the-variants.{Accepted, Refused}
-use Rattle·outcome.specs.Whole.{runOf}
-use Rattle·listing_text.specs.Lines.{refusedLine, networkLine, restLine}
-use Rattle·trace_text·specs.specs.Lines.{turnLines}
+use Rattle.std.specs.Prelude.{List, ◌++◌, ℕ}
+use Rattle.outcome.specs.declared.Outcome.{Outcome}
+use Rattle.outcome.specs.declared.Outcome.TheVariants.{Accepted, Refused}
+use Rattle.outcome.specs.Whole.{run_of}
+use Rattle.listing_text.specs.Lines.{refused_line, network_line, rest_line}
+use Rattle.trace_text.specs.Lines.{turn_lines}
 
 -- the network, the turns in the order of the schedule, the entries
-unfoldable pub acceptedText : ℕ → ℕ → ℕ → List ℕ → List ℕ
-acceptedText w c e s = networkLine w c ++ (turnLines s ++ restLine e)
+unfoldable pub accepted_text : ℕ → ℕ → ℕ → List ℕ → List ℕ
+accepted_text w c e s = network_line w c ++ (turn_lines s ++ rest_line e)
 
-unfoldable pub textOf : Outcome → List ℕ → List ℕ
-textOf (Accepted w c e b) s = acceptedText w c e s
-textOf (Refused k n at present) s = refusedLine k n at
+unfoldable pub text_of : Outcome → List ℕ → List ℕ
+text_of (Accepted w c e b) s = accepted_text w c e s
+text_of (Refused k n at present) s = refused_line k n at
 
 -- the schedule is judged whole first, with the room that the listing has
-unfoldable pub traceOf : List ℕ → List ℕ
-traceOf s = textOf (runOf s 65536) s
+unfoldable pub trace_of : List ℕ → List ℕ
+trace_of s = text_of (run_of s 65536) s

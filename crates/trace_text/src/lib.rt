@@ -1,19 +1,21 @@
 // The text that the trace program writes: a line for each turn of a schedule, in its order, for who follows a request through the
 // cabinet. Each `put` lets its text go into a lent buffer as those of `text` do, and answers the place behind it.
-ghost use mathlib.Core.Path.{_≡_};
-ghost use Rattle·text.specs.Text.{Puts};
-ghost use Rattle·listing_text.specs.Listing.{Lists};
-ghost use Rattle·trace_text·specs.specs.Lines.{named, passedLine, dealtLine, turnLine, turnLines};
-ghost use Rattle·trace_text·specs.specs.Trace.{acceptedText, textOf, traceOf};
+#![tactic(auto)]
+
+ghost use Rattle.std.specs.Prelude.{◌≡◌};
+ghost use Rattle.text.specs.Text.{Puts};
+ghost use Rattle.listing_text.specs.Listing.{Lists};
+ghost use Rattle.trace_text.specs.Lines.{named, passed_line, dealt_line, turn_line, turn_lines};
+ghost use Rattle.trace_text.specs.Trace.{accepted_text, text_of, trace_of};
+
 use listing_text::Listed;
 use moves::Turn;
 use outcome::Outcome;
-use records::Read;
-use records::Record;
+use records::{Read, Record};
 use run::Run;
 
 fn put_named(out: &mut [u8], at: usize, word: &[u8], x: usize) -> usize
-    ensures { λ r. ⌜ Puts (named (now (word .entry)) x) at (now (out .entry)) r (now (out .exit)) ⌝ }
+    ensures { Puts (named word.now x) at out.old result out.new }
 {
     let next = text::put_text(out, at, word);
     text::put_decimal(out, next, x)
@@ -28,7 +30,7 @@ fn put_passed(
     outlet: u8,
     wire: u16,
 ) -> usize
-    ensures { λ r. ⌜ Puts (passedLine token layer cell outlet wire) at (now (out .entry)) r (now (out .exit)) ⌝ }
+    ensures { Puts (passed_line token layer cell outlet wire) at out.old result out.new }
 {
     let first = text::put_decimal(out, at, token as usize);
     let second = put_named(out, first, b" layer ", layer as usize);
@@ -39,7 +41,7 @@ fn put_passed(
 }
 
 fn put_dealt(out: &mut [u8], at: usize, token: u16, exit: u16, number: u32) -> usize
-    ensures { λ r. ⌜ Puts (dealtLine token exit number) at (now (out .entry)) r (now (out .exit)) ⌝ }
+    ensures { Puts (dealt_line token exit number) at out.old result out.new }
 {
     let first = text::put_decimal(out, at, token as usize);
     let second = put_named(out, first, b" exit ", exit as usize);
@@ -48,7 +50,7 @@ fn put_dealt(out: &mut [u8], at: usize, token: u16, exit: u16, number: u32) -> u
 }
 
 fn put_turn(out: &mut [u8], at: usize, token: u16, answer: Turn) -> usize
-    ensures { λ r. ⌜ Puts (turnLine token answer) at (now (out .entry)) r (now (out .exit)) ⌝ }
+    ensures { Puts (turn_line token answer) at out.old result out.new }
 {
     match answer {
         Turn::Passed {
@@ -65,13 +67,13 @@ fn put_turn(out: &mut [u8], at: usize, token: u16, answer: Turn) -> usize
 
 // A line for each turn of a schedule, as far as its bytes are records.
 fn put_turns(out: &mut [u8], at: usize, bytes: &[u8]) -> usize
-    ensures { λ r. ⌜ Puts (turnLines (now (bytes .entry))) at (now (out .entry)) r (now (out .exit)) ⌝ }
+    ensures { Puts (turn_lines bytes.now) at out.old result out.new }
 {
     let opened = Run::open(0, 0);
     let mut run = opened.run;
     let mut next = at;
     let mut from = 0;
-    while from < bytes.len() {
+    'turns: while from < bytes.len() {
         let read = records::read_in_schedule(&bytes[from..]);
         let Read::Got(item, len) = read else {
             return next;
@@ -103,7 +105,7 @@ fn put_turns(out: &mut [u8], at: usize, bytes: &[u8]) -> usize
 }
 
 fn put_accepted(out: &mut [u8], width: u16, construction: u16, entries: u32, bytes: &[u8]) -> usize
-    ensures { λ r. ⌜ Puts (acceptedText width construction entries (now (bytes .entry))) 0 (now (out .entry)) r (now (out .exit)) ⌝ }
+    ensures { Puts (accepted_text width construction entries bytes.now) 0 out.old result out.new }
 {
     let first = listing_text::put_network(out, width as usize, construction);
     let second = put_turns(out, first, bytes);
@@ -112,7 +114,7 @@ fn put_accepted(out: &mut [u8], width: u16, construction: u16, entries: u32, byt
 
 // The text of a schedule that has come to this outcome.
 fn put_outcome(out: &mut [u8], outcome: Outcome, bytes: &[u8]) -> usize
-    ensures { λ r. ⌜ Puts (textOf outcome (now (bytes .entry))) 0 (now (out .entry)) r (now (out .exit)) ⌝ }
+    ensures { Puts (text_of outcome bytes.now) 0 out.old result out.new }
 {
     match outcome {
         Outcome::Accepted {
@@ -132,7 +134,7 @@ fn put_outcome(out: &mut [u8], outcome: Outcome, bytes: &[u8]) -> usize
 
 // The trace of a schedule, where there is room for it; else `out` stays, and the answer says how much is wanted.
 pub fn trace(bytes: &[u8], out: &mut [u8]) -> Listed
-    ensures { λ r. ⌜ Lists (traceOf (now (bytes .entry))) (now (out .entry)) r (now (out .exit)) ⌝ }
+    ensures { Lists (trace_of bytes.now) out.old result out.new }
 {
     let mut reports = [0u8; outcome::MAX_BYTES];
     let outcome = schedule::run(bytes, &mut reports);

@@ -1,0 +1,22 @@
+-- `console_record::put_toggles` meets its contract. The loop's invariant: the entries of the cells left, put where the text has got to, give the
+-- whole list. The measure is the cells left. Assumes nothing.
+use mathlib.Core.Path.{◌≡◌}
+use lib.ListN.{length}
+use mathlib.Core.Bool.{false}
+use Rattle.text.proofs.Lists.{members_none, member_on, members_all}
+use Rattle.console_record.specs.Record.{toggle_list}
+use borrow.Author.Rules.{rules}
+use Rattle.console_record.proofs.put_toggles.Goals as goal
+
+pub loop-i-init : goal.loop-i-init
+loop-i-init c = members_none _ _ _ _ _
+
+pub loop-i-preserved : goal.loop-i-preserved
+loop-i-preserved c = let e : length c.args.board.toggles ≡ 1152 = search rules in member_on c.loop-i.invariant false (rw e c.loop-i-test.true) c.put_toggle-next.ensures
+
+pub shape_of-out : goal.shape_of-out
+shape_of-out c = let same = c.loop-i.invariant.leads.same in search rules
+
+pub returns : goal.returns
+unfolding toggle_list
+returns c = let e : length c.args.board.toggles ≡ 1152 = search rules in members_all c.loop-i.invariant (rw e c.loop-i-test.false) c.put_dash.ensures

@@ -1,0 +1,10 @@
+-- `dials::larger_of` meets its contract. Assumes nothing.
+use Rattle.std.proofs.Common.{le-leb}
+use borrow.Author.Tests.{lt-leb}
+use Rattle.dials.proofs.larger_of.Goals as goal
+
+pub returns-then-a-b : goal.returns-then-a-b
+returns-then-a-b c = simp (le-leb _ _ c.if-a-b.true)
+
+pub returns-else-a-b : goal.returns-else-a-b
+returns-else-a-b c = simp (lt-leb _ _ c.if-a-b.false)

@@ -1,0 +1,11 @@
+-- `listing_text::listing` meets its contract: the first text is put for its length alone, the second where there is room.
+-- Assumes nothing.
+use Rattle.listing_text.proofs.Whole.{listing_few, wanted_is, filled_is, lists_none, lists_all}
+use borrow.Author.Rules.{rules}
+use Rattle.listing_text.proofs.listing.Goals as goal
+
+pub returns-then-out-wanted : goal.returns-then-out-wanted
+returns-then-out-wanted c = lists_none _ _ _ (wanted_is (search rules) c.run-outcome.ensures c.put_outcome-wanted.ensures) c.if-out-wanted.true
+
+pub returns : goal.returns
+returns c = lists_all _ _ _ (wanted_is (search rules) c.run-outcome.ensures c.put_outcome-wanted.ensures) (listing_few _) _ c.if-out-wanted.false (filled_is (search rules) c.run-outcome.ensures c.put_outcome.ensures)

@@ -1,0 +1,17 @@
+-- `records::put_record` meets its contract: the head, and the fields behind it. Assumes nothing.
+use native.Mathlib.Omega.{arith}
+use mathlib.Core.Path.{refl}
+use Rattle.records.specs.Fields.{bytes_in}
+use Rattle.records.specs.Writing.{size_of, bytes_of}
+use Rattle.records.proofs.Writing.{size_fields, placed_then}
+use Rattle.records.proofs.put_record.Goals as goal
+
+pub put_pair-requires : goal.put_pair-requires
+put_pair-requires c = omega (arith, size_fields c.args.item)
+
+pub put_fields-requires : goal.put_fields-requires
+put_fields-requires c = omega (arith, size_fields c.args.item)
+
+pub returns : goal.returns
+unfolding bytes_of size_of bytes_in
+returns c = rw (← c.kind_of-kind.ensures, ← c.length_of-size.ensures) (placed_then _ _ _ (omega arith) _ _ _ _ c.put_pair.ensures refl c.put_fields.ensures)

@@ -1,0 +1,65 @@
+// Reading into a lent buffer, from any reader, writing one to any writer, and buffers to lend. Nothing is allocated.
+#![tactic(auto)]
+
+ghost use Rattle.std.specs.Prelude.{◌≡◌, ℕ, ◌+◌, ◌<◌, ◌≤◌, IfOk, OnOk, OnErr, EachIndex, slice_index, length, take, drop};
+ghost use Rattle.std.specs.Io.KnownBytes.{Appends, Consumes, IsAtEnd, Keeps};
+
+use std::io;
+use std::io::{ErrorKind, Read, Write};
+
+// One read, into the buffer from a place on. Answers how many bytes it gave: none where the input has ended or no room is left. An
+// error is the reader's own, and nothing is read then.
+pub fn read_behind<R: Read>(reader: &mut R, buf: &mut [u8], at: usize) -> io::Result<usize>
+    requires { at ≤ length buf.old }
+    ensures front { take at buf.new ≡ take at buf.old }
+    ensures fits { IfOk result (λ n. at + n ≤ length buf.new) }
+    ensures bytes { IfOk result (λ n. Consumes (R.remaining reader.old) (R.remaining reader.new) (take n (drop at buf.new))) }
+    ensures end { IfOk result (λ n. n ≡ 0 → at < length buf.new → IsAtEnd (R.remaining reader.new)) }
+    ensures err { OnErr result (Keeps (R.remaining reader.old) (R.remaining reader.new)) }
+{
+    reader.read(&mut buf[at..])
+}
+
+// Reads until the buffer is full or the input ends. Answers how many bytes it put at the buffer's front. An error is the reader's own,
+// and what was read before it stands at the front.
+pub fn read_full<R: Read>(reader: &mut R, buf: &mut [u8]) -> io::Result<usize>
+    ensures within { IfOk result (λ n. n ≤ length buf.new) }
+    ensures bytes { IfOk result (λ n. Consumes (R.remaining reader.old) (R.remaining reader.new) (take n buf.new)) }
+    ensures all { IfOk result (λ n. n < length buf.new → IsAtEnd (R.remaining reader.new)) }
+    ensures err { OnErr result ((n : ℕ) × (n ≤ length buf.new) × Consumes (R.remaining reader.old) (R.remaining reader.new) (take n buf.new)) }
+{
+    let mut done = 0;
+    while done < buf.len() {
+        let n = read_behind(reader, buf, done)?;
+        if n == 0 {
+            return Ok(done);
+        }
+        done += n;
+    }
+    Ok(done)
+}
+
+// Writes bytes whole. An error is the writer's own, or that it takes no more, and what stands before some place was written then.
+pub fn write_whole<W: Write>(writer: &mut W, bytes: &[u8]) -> io::Result<()>
+    ensures ok { OnOk result (Appends (W.contents writer.old) (W.contents writer.new) bytes.now) }
+    ensures err { OnErr result ((n : ℕ) × (n ≤ length bytes.now) × Appends (W.contents writer.old) (W.contents writer.new) (take n bytes.now)) }
+{
+    let mut done = 0;
+    while done < bytes.len() {
+        let taken = writer.write(&bytes[done..])?;
+        if taken == 0 {
+            return Err(io::Error::from(ErrorKind::WriteZero));
+        }
+        done += taken;
+    }
+    Ok(())
+}
+
+// So many zeros, to be lent as a buffer. A program with a long one asks for it here: of a literal that long a proof would work out
+// each byte.
+pub fn zeros<const N: usize>() -> [u8; N]
+    ensures long { length result ≡ N }
+    ensures zero { EachIndex result (λ i. slice_index result i ≡ 0) }
+{
+    [0; N]
+}
