@@ -9,7 +9,7 @@ use native.Mathlib.Omega.{arith}
 use lib.Pow.{pow_mono}
 use lib.Dec.{eqb}
 use borrow.Author.Tests.{eqb-true, not-false}
-use Rattle.order.specs.Order.{Refusal, ◌⟶◌, first_of}
+use Rattle.order.specs.Order.{Rule, ◌⟶◌, first_of}
 use Rattle.order.proofs.Order.{cleared}
 use Rattle.network.specs.Widths.{width_ok, construction_ok, open_no, levels, depth_b, depth_p, depth, depth_of}
 
@@ -120,13 +120,13 @@ allowed w c h =
     let two = cleared (not (construction_ok c)) 1 _ one.then in
     record { width = not-false (width_ok w) one.fails; construction = not-false (construction_ok c) two.fails }
 
-openings : (a b : Bool) (rest : List Refusal) → (first_of ((a ⟶ 1) ∷ (b ⟶ 2) ∷ []) ≡ 0 → ⊥) → first_of ((a ⟶ 1) ∷ (b ⟶ 2) ∷ rest) ≡ first_of ((a ⟶ 1) ∷ (b ⟶ 2) ∷ [])
+openings : (a b : Bool) (rest : List Rule) → (first_of ((a ⟶ 1) ∷ (b ⟶ 2) ∷ []) ≡ 0 → ⊥) → first_of ((a ⟶ 1) ∷ (b ⟶ 2) ∷ rest) ≡ first_of ((a ⟶ 1) ∷ (b ⟶ 2) ∷ [])
 unfolding first_of
 openings true b rest h = refl
 openings false true rest h = refl
 openings false false rest h = absurd (h refl)
 
-module _ (w c : ℕ) (rest : List Refusal) where
+module _ (w c : ℕ) (rest : List Rule) where
   pub open_refused : (open_no w c ≡ 0 → ⊥) → open_no w c ≡ first_of ((not (width_ok w) ⟶ 1) ∷ (not (construction_ok c) ⟶ 2) ∷ rest)
   unfolding open_no
   open_refused h = sym (openings (not (width_ok w)) (not (construction_ok c)) rest h)

@@ -3,9 +3,12 @@
 #![tactic(auto)]
 
 ghost use Rattle.std.specs.Prelude.{◌≡◌, ℕ, ◌+◌, ◌*◌, ◌^◌, ◌≤◌, ◌<◌, cond, eqb, get_or};
+ghost use Rattle.order.specs.Order.{refused_by};
 ghost use Rattle.network.specs.Widths.{width_ok, construction_ok, open_no, levels, depth, depth_b, depth_of};
 ghost use Rattle.network.specs.Wiring.{fed_of, feed_at, last_at, part, bitonic, place};
 ghost use Rattle.network.specs.Rows.{place_of, array_of, row_array};
+
+use order::Refusal;
 
 // ---- limits and numbers of the document
 
@@ -53,19 +56,17 @@ pub fn construction_ok(construction: u16) -> bool
     (construction == BITONIC) | (construction == PERIODIC)
 }
 
-// Why a width and a construction are refused: 1, 2, or 0 for neither.
-pub fn open_refusal(width: u16, construction: u16) -> u8
-    ensures { result ≡ open_no width construction }
+// May a run open with this width and construction? Refused by 1 and 2.
+pub fn check_open(width: u16, construction: u16) -> Result<(), Refusal>
+    ensures { refused_by result ≡ open_no width construction }
 {
-    let wide = width_ok(width);
-    if !wide {
-        return 1;
+    if !width_ok(width) {
+        return Err(Refusal::Width);
     }
-    let known = construction_ok(construction);
-    if !known {
-        return 2;
+    if !construction_ok(construction) {
+        return Err(Refusal::Construction);
     }
-    0
+    Ok(())
 }
 
 // The k of a width w = 2^k, and 0 where the width is not allowed.

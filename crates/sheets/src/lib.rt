@@ -3,11 +3,12 @@
 #![tactic(auto)]
 
 ghost use Rattle.std.specs.Prelude.{◌≡◌, ◌*◌, ◌≤◌, ◌++◌, length, take, drop};
+ghost use Rattle.order.specs.Order.{refused_by};
 ghost use Rattle.network.specs.Widths.{open_no, depth_of};
 ghost use Rattle.network.specs.Rows.{place_of, rows};
 ghost use Rattle.sheets.specs.Sheets.{sheet_length, sheet_no, SheetIs, view_no, chosen, ViewIs};
 
-use order::Filled;
+use order::Refusal;
 
 // A row, from an array, into a part of a sheet.
 pub fn put_row(out: &mut [u8], row: [u8; network::ROW])
@@ -45,73 +46,61 @@ fn sheet_length(width: u16, construction: u16) -> usize
     (depth as usize) * (width as usize)
 }
 
-fn sheet_refusal(width: u16, construction: u16, room: usize) -> u8
-    ensures { result ≡ sheet_no width construction room }
+fn check_sheet(width: u16, construction: u16, room: usize) -> Result<(), Refusal>
+    ensures { refused_by result ≡ sheet_no width construction room }
 {
-    let refusal = network::open_refusal(width, construction);
-    if refusal != 0 {
-        return refusal;
-    }
+    network::check_open(width, construction)?;
     if room < sheet_length(width, construction) {
-        return 3;
+        return Err(Refusal::SheetShort);
     }
-    0
+    Ok(())
 }
 
 // The sheet: the rows in layer order, in front of the lent bytes.
-pub fn sheet(width: u16, construction: u16, out: &mut [u8]) -> Filled
+pub fn sheet(width: u16, construction: u16, out: &mut [u8]) -> Result<usize, Refusal>
     ensures { SheetIs width construction out.old out.new result }
 {
-    let refusal = sheet_refusal(width, construction, out.len());
-    if refusal != 0 {
-        return Filled { refusal, filled: 0 };
-    }
+    check_sheet(width, construction, out.len())?;
     let depth = network::depth_of(width, construction);
     put_rows(width, construction, depth, out);
-    Filled {
-        refusal,
-        filled: sheet_length(width, construction),
-    }
+    Ok(sheet_length(width, construction))
 }
 
-// The refusal number of a view of a sheet of that many bytes.
-fn view_check(width: u16, construction: u16, layer: u16, room: usize) -> u8
-    ensures { result ≡ view_no width construction layer room }
+// May the row of a layer be viewed in a sheet of that many bytes?
+fn check_view_in(width: u16, construction: u16, layer: u16, room: usize) -> Result<(), Refusal>
+    ensures { refused_by result ≡ view_no width construction layer room }
 {
-    let refusal = network::open_refusal(width, construction);
-    if refusal != 0 {
-        return refusal;
-    }
+    network::check_open(width, construction)?;
     if network::depth_of(width, construction) <= layer {
-        return 10;
+        return Err(Refusal::NoLayer);
     }
     if room < sheet_length(width, construction) {
-        return 3;
+        return Err(Refusal::SheetShort);
     }
-    0
+    Ok(())
 }
 
-// The refusal number of a view.
-pub fn view_refusal(
+// Why the view of a layer's row is refused.
+pub fn check_view(
     width: u16,
     construction: u16,
     layer: u16,
     bitonic: &[u8],
     periodic: &[u8],
-) -> u8
-    ensures { result ≡ view_no width construction layer (length (chosen construction bitonic.now periodic.now)) }
+) -> Result<(), Refusal>
+    ensures { refused_by result ≡ view_no width construction layer (length (chosen construction bitonic.now periodic.now)) }
 {
     if construction == 1 {
-        return view_check(width, construction, layer, bitonic.len());
+        return check_view_in(width, construction, layer, bitonic.len());
     }
-    view_check(width, construction, layer, periodic.len())
+    check_view_in(width, construction, layer, periodic.len())
 }
 
 // The row in one sheet, or nothing.
 fn row_in<'a>(width: u16, construction: u16, layer: u16, sheet: &'a [u8]) -> &'a [u8]
     ensures { ViewIs width construction layer sheet.now sheet.entry.ref_ptr result.now result.ref_ptr }
 {
-    if view_check(width, construction, layer, sheet.len()) != 0 {
+    if check_view_in(width, construction, layer, sheet.len()).is_err() {
         return &sheet[0..0];
     }
     let w = width as usize;

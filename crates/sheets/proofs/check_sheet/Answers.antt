@@ -1,0 +1,23 @@
+-- `sheets::check_sheet` meets its contract: the opening's refusals, then the room. Assumes nothing.
+use mathlib.Core.Path.{sym, ◌∙◌}
+use Rattle.std.proofs.lemmas.Result.{err_from_is_err_and}
+use Rattle.order.proofs.Numbers.{number_some}
+use Rattle.order.proofs.Order.{order}
+use Rattle.network.proofs.Widths.{open_refused, open_allowed}
+use Rattle.sheets.specs.Sheets.{sheet_no}
+use Rattle.sheets.proofs.check_sheet.Goals as goal
+
+pub returns-in_err-check_open : goal.returns-in_err-check_open
+unfolding sheet_no
+returns-in_err-check_open c =
+    let p = err_from_is_err_and c.from_residual.result c.from_residual.ensures.1 in
+    let e = c.in_err-check_open.ensures in
+    rw (p.1, p.2) (e ∙ open_refused c.args.width c.args.construction _ (λ z. number_some _ (e ∙ z)))
+
+pub returns-then-room-sheet_length : goal.returns-then-room-sheet_length
+unfolding sheet_no
+returns-then-room-sheet_length c = rw (open_allowed c.args.width c.args.construction _ (sym c.in_ok-check_open.ensures), ← c.sheet_length.ensures) (search order)
+
+pub returns : goal.returns
+unfolding sheet_no
+returns c = rw (open_allowed c.args.width c.args.construction _ (sym c.in_ok-check_open.ensures), ← c.sheet_length.ensures) (search order)
