@@ -1,7 +1,7 @@
--- Laws of the sheet and the view: what holds where nothing is refused, that a view is empty exactly when it is refused, and a copy
+-- Laws of the sheet and the view: what an answer's test says, what holds where nothing is refused, that a view is empty exactly when it is refused, and a copy
 -- from the front. Assumes nothing.
-use mathlib.Core.Path.{◌≡◌, sym, ap, ◌∙◌}
-use mathlib.Core.Bool.{true}
+use mathlib.Core.Path.{◌≡◌, refl, sym, ap, ◌∙◌}
+use mathlib.Core.Bool.{true, false}
 use mathlib.Core.List.{List, []}
 use mathlib.Core.Logic.{◌↔◌}
 use Prim.Native.Nat.{ℕ, ◌+◌, ◌-◌, ◌*◌, ◌<◌, ◌≤◌}
@@ -11,11 +11,25 @@ use lib.ListN.{length, get_or, set, take, drop, length-drop}
 use lib.Seq.{get_or-set_same, get_or-set_other, ext_get_or, get_or-take, length-take-le}
 use borrow.Author.Count.{below_more}
 use borrow.Author.Tests.{ltb-false, leb-false, not-false, eq-eqb, ne_eqb}
+use Rattle.std.proofs.Common.{Result, Ok, Err}
+use Rattle.std.specs.Result.{is_err}
+use Rattle.order.specs.declared.Refusal.{Refusal}
+use Rattle.order.specs.Order.{refused_by}
+use Rattle.order.proofs.Numbers.{number_some}
 use Rattle.order.proofs.Order.{cleared}
 use Rattle.network.specs.Widths.{width_ok, depth_of}
 use Rattle.network.proofs.Widths.{width_some}
 use Rattle.network.proofs.Rows.{row_end}
 use Rattle.sheets.specs.Sheets.{sheet_length, sheet_no, view_no, ViewIs}
+
+-- ---- an answer that is refused has a number, and one that is carried out has none
+pub refused : {A : Type 0} (r : Result A Refusal) → true ≡ is_err r → refused_by r ≡ 0 → ⊥
+refused (Ok a) h z = cc
+refused (Err e) h z = number_some e z
+
+pub allowed : {A : Type 0} (r : Result A Refusal) → false ≡ is_err r → refused_by r ≡ 0
+allowed (Ok a) h = refl
+allowed (Err e) h = cc
 
 -- ---- where nothing is refused
 pub sheet_room : (w c n : ℕ) → sheet_no w c n ≡ 0 → sheet_length w c ≤ n
