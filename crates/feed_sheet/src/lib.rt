@@ -3,8 +3,11 @@
 #![tactic(auto)]
 
 ghost use Rattle.std.specs.Prelude.{◌≡◌, not, ◌+◌, ◌*◌, ◌<◌, ◌≤◌, length};
+ghost use Rattle.order.specs.Order.{refused_by};
 ghost use Rattle.feed_sheet.specs.Limits.{in_limits, permutation};
 ghost use Rattle.feed_sheet.specs.Sheet.{unpaired, fed_at, rows_ok, feed_no};
+
+use order::Refusal;
 
 pub const MAX_WIDTH: usize = network::MAX_WIDTH as usize;
 
@@ -62,26 +65,26 @@ fn rows_ok(sheet: &[u8], width: usize, rows: usize) -> bool
     true
 }
 
-// How a run call judges the sheet that it is lent: 22, 20, 3, 21, or 0.
-pub fn refusal(sheet: &[u8], width: u16, depth: u16) -> u8
-    ensures { result ≡ feed_no width depth sheet.now }
+// How a run call judges the sheet that it is lent: refused by 22, 20, 3 and 21.
+pub fn check(sheet: &[u8], width: u16, depth: u16) -> Result<(), Refusal>
+    ensures { refused_by result ≡ feed_no width depth sheet.now }
 {
     let w = width as usize;
     let d = depth as usize;
     if !in_limits(w, d) {
-        return 22;
+        return Err(Refusal::PastLimits);
     }
     if is_unpaired(width, depth) {
-        return 20;
+        return Err(Refusal::Unequal);
     }
     let rows = d + 1;
     if sheet.len() < rows * w {
-        return 3;
+        return Err(Refusal::SheetShort);
     }
     if !rows_ok(sheet, w, rows) {
-        return 21;
+        return Err(Refusal::NoPermutation);
     }
-    0
+    Ok(())
 }
 
 // Where the sheet sends a wire; past its end, 0.

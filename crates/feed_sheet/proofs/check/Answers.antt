@@ -1,11 +1,11 @@
--- `feed_sheet::refusal` meets its contract: size, pairs, room, rows. Assumes nothing.
+-- `feed_sheet::check` meets its contract: size, pairs, room, rows. Assumes nothing.
 use Prim.Native.Nat.{◌+◌}
 use native.Mathlib.Nat.{mul-le-mul}
 use native.Mathlib.Omega.{arith}
 use borrow.Author.Tests.{lt-ltb, le-ltb}
 use Rattle.order.specs.Order.{first_of}
 use Rattle.feed_sheet.specs.Sheet.{feed_no}
-use Rattle.feed_sheet.proofs.refusal.Goals as goal
+use Rattle.feed_sheet.proofs.check.Goals as goal
 
 pub returns-then-not-in_limits : goal.returns-then-not-in_limits
 unfolding feed_no first_of
