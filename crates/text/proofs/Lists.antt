@@ -68,9 +68,11 @@ module _ {values out₀ out : List ℕ} {at next i : ℕ} (n : Numbers values at
   number_on h p q =
       record { within = omega arith; leads = leads_on _ (leads_on _ (rw (number_more values i h) n.leads) p) q }
 
-  pub numbers_all : length values ≤ i → {last : ℕ} {out' : List ℕ} → Puts (dash_unless (ltb 0 i)) next out last out' → Puts (number_list values) at out₀ last out'
+  pub numbers_all : length values ≤ i → {last : ℕ} {out' : List ℕ} → Puts (dash_unless (ltb 0 (length values))) next out last out' → Puts (number_list values) at out₀ last out'
   unfolding left
-  numbers_all h p = leads_last (rw (drop_of_length-le values h) at n.leads) p
+  numbers_all h p =
+      let e : i ≡ length values = omega (arith, n.within) in
+      leads_last (rw (drop_of_length-le values h) at n.leads) (rw (← e) at p)
 
 -- ---- members with their indexes, i of them passed; `some` says whether one of them was shown
 pub record Members {A : Type 0} (shown : A → Bool) (entry : ℕ → A → List ℕ) (members : List A) (at : ℕ) (out₀ : List ℕ) (next : ℕ) (some : Bool) (i : ℕ) (out : List ℕ) : Type 0 where
