@@ -11,9 +11,8 @@ use lib.Seq.{take-take, take-nil, length-take-le}
 use borrow.Author.Tests.{lt-ltb, le-ltb, eq-eqb}
 use Rattle.order.specs.Order.{first_of}
 use Rattle.records.specs.declared.Record.{Record}
-use Rattle.records.specs.declared.Read.TheVariants.{Got, Refused}
 use Rattle.records.specs.Fields.{field}
-use Rattle.records.specs.Reading.{length_of, known, length_in, kind_in, record_in, read_no, present_of, read_of}
+use Rattle.records.specs.Reading.{Got, Refused, length_of, known, length_in, kind_in, record_in, read_no, present_of, read_of}
 use Rattle.records.proofs.Reading.{Whole, whole→read, read→gotten, by_kind}
 
 -- ---- the first m bytes of s, from a place on

@@ -12,8 +12,7 @@ use borrow.Author.Tests.{ltb-false, leb-true, eqb-true, not-false, le-ltb, eq-eq
 use Rattle.order.specs.Order.{first_of}
 use Rattle.order.proofs.Order.{cleared}
 use Rattle.records.specs.declared.Record.{Record}
-use Rattle.records.specs.declared.Read.TheVariants.{Got, Refused}
-use Rattle.records.specs.Reading.{length_of, known, length_in, kind_in, record_in, read_no, read_of}
+use Rattle.records.specs.Reading.{Got, Refused, length_of, known, length_in, kind_in, record_in, read_no, read_of}
 use Rattle.records.specs.Writing.{kind_of, size_of}
 
 -- bytes whose first record is whole

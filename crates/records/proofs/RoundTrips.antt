@@ -11,9 +11,8 @@ use lib.Dec.{ltb}
 use borrow.Author.Tests.{ltb-true}
 use Rattle.records.specs.declared.Record.{Record}
 use Rattle.records.specs.declared.Record.TheVariants.{Open, Enter, Turn, Close, Number}
-use Rattle.records.specs.declared.Read.TheVariants.{Got}
 use Rattle.records.specs.Fields.{spelt, field, bytes_in}
-use Rattle.records.specs.Reading.{length_of, known, kind_in, record_in, read_of}
+use Rattle.records.specs.Reading.{Got, length_of, known, kind_in, record_in, read_of}
 use Rattle.records.specs.Writing.{kind_of, fields_of, size_of, bytes_of}
 use Rattle.records.specs.RoundTrips.{fits, RoundTrips}
 use Rattle.records.proofs.Fields.{spelt_bytes_in, bytes_in_field}

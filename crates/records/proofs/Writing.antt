@@ -9,12 +9,14 @@ use native.Mathlib.Nat.{add_assoc, zero-add}
 use lib.ListN.{length, take, drop, set, length-append}
 use lib.Seq.{sets-eq, length-take-le, take_at, drop_at, drop-drop}
 use borrow.Author.Tests.{lt-ltb, le-ltb}
+use Rattle.std.proofs.Common.{Ok, Err}
 use Rattle.records.specs.declared.Record.{Record}
 use Rattle.records.specs.declared.Record.TheVariants.{Open, Enter, Turn, Close, Number}
 use Rattle.records.specs.Fields.{bytes_in, placed}
 use Rattle.records.specs.Reading.{length_of}
 use Rattle.records.specs.Writing.{fields_of, size_of, bytes_of, write_no, Writes}
 use Rattle.order.specs.Order.{first_of, over}
+use Rattle.order.specs.declared.Refusal.TheVariants as Refusal
 
 -- ---- placing
 module _ (out : List ℕ) (at : ℕ) (a : List ℕ) (within : at ≤ length out) where
@@ -71,12 +73,12 @@ over_more out done bytes =
     rw (← placed_front out done, ← placed_front out (done ++ bytes), ← placed_placed out 0 done (omega arith) bytes, zero-add (length done))
 
 module _ (r : Record) (out : List ℕ) (size : ℕ) (is_size : size ≡ size_of r) where
-  pub writes_none : length out < size → Writes r out (record { refusal = 17; filled = 0 }) out
+  pub writes_none : length out < size → Writes r out (Err Refusal.NoRoom) out
   unfolding write_no first_of
   writes_none short = record { answer = rw (← is_size, lt-ltb _ _ short); buffer = rw (← is_size, lt-ltb _ _ short) }
 
   pub writes_all : (after : List ℕ) → size ≤ length out → after ≡ placed out 0 (bytes_of r)
-      → Writes r out (record { refusal = 0; filled = size }) after
+      → Writes r out (Ok size) after
   unfolding write_no first_of
   writes_all after fits e =
       record {

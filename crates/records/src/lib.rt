@@ -2,13 +2,14 @@
 #![tactic(auto)]
 
 ghost use Rattle.std.specs.Prelude.{◌≡◌, true, false, ◌++◌, ◌+◌, ◌≤◌, length, get_or};
+ghost use Rattle.order.specs.Order.{number_of, refused_by};
 ghost use Rattle.records.specs.Fields.{field, bytes_in, placed};
-ghost use Rattle.records.specs.Reading.{length_of, record_in, read_no, present_of, read_of};
+ghost use Rattle.records.specs.Reading.{length_of, record_in, read_no, present_of, read_of, read_by};
 ghost use Rattle.records.specs.Writing.{kind_of, fields_of, size_of, bytes_of, Writes};
 
-use order::Filled;
+use order::Refusal;
 
-#[derive(Clone, Copy)]
+#[derive(Clone, Copy, Debug, PartialEq, Eq)]
 pub enum Record {
     Open { width: u16, construction: u16 },
     Enter { token: u16, wire: u16 },
@@ -17,12 +18,18 @@ pub enum Record {
     Number { token: u16, wire: u16, number: u32 },
 }
 
+// A record that was read, and its length.
 #[derive(Clone, Copy)]
-pub enum Read {
-    // The record, and its length.
-    Got(Record, usize),
-    // The number of the refusal, and how many bytes of the record are present where it is cut, else 0.
-    Refused { number: u8, present: usize },
+pub struct Got {
+    pub record: Record,
+    pub length: usize,
+}
+
+// One that was not: why, and how many bytes of it are present where it is cut, else 0.
+#[derive(Clone, Copy)]
+pub struct Unread {
+    pub refusal: Refusal,
+    pub present: usize,
 }
 
 // The byte at a place, 0 past the end.
@@ -99,64 +106,62 @@ fn record_in(kind: u16, bytes: &[u8]) -> Record
     }
 }
 
-// The refusal of the record in front, 0 where there is none.
-fn refusal(bytes: &[u8], reports: bool) -> u8
-    ensures { result ≡ read_no reports bytes.now }
+// May the record in front be read?
+fn check_record(bytes: &[u8], reports: bool) -> Result<(), Refusal>
+    ensures { refused_by result ≡ read_no reports bytes.now }
 {
     let kind = field_of_two(bytes, 2);
     let size = length_of(kind);
     let told = field_of_two(bytes, 0);
     let long = size as usize;
     if bytes.len() < 4 {
-        return 11;
+        return Err(Refusal::HeadCut);
     }
     if !(((1 <= kind) & (kind <= 4)) | (reports & (kind == 5))) {
-        return 13;
+        return Err(Refusal::UnknownKind);
     }
     if told != size {
-        return 12;
+        return Err(Refusal::WrongLength);
     }
     if bytes.len() < long {
-        return 23;
+        return Err(Refusal::BodyCut);
     }
-    0
+    Ok(())
 }
 
 // How many bytes of a refused record are present, with n from its first to the end: n where it is cut, else 0.
-pub fn present_of(number: u8, n: usize) -> usize
-    ensures { result ≡ present_of number n }
+pub fn present_of(refusal: Refusal, n: usize) -> usize
+    ensures { result ≡ present_of (number_of refusal) n }
 {
-    if (number == 11) | (number == 23) {
-        n
-    } else {
-        0
+    match refusal {
+        Refusal::HeadCut | Refusal::BodyCut => n,
+        _ => 0,
     }
 }
 
-fn read_among(bytes: &[u8], reports: bool) -> Read
-    ensures { result ≡ read_of reports bytes.now }
+fn read_among(bytes: &[u8], reports: bool) -> Result<Got, Unread>
+    ensures { read_by result ≡ read_of reports bytes.now }
 {
-    let number = refusal(bytes, reports);
-    if number != 0 {
-        let present = present_of(number, bytes.len());
-        return Read::Refused { number, present };
+    if let Err(refusal) = check_record(bytes, reports) {
+        let present = present_of(refusal, bytes.len());
+        return Err(Unread { refusal, present });
     }
     let kind = field_of_two(bytes, 2);
-    let item = record_in(kind, bytes);
-    let size = length_of(kind) as usize;
-    Read::Got(item, size)
+    let record = record_in(kind, bytes);
+    let length = length_of(kind) as usize;
+    Ok(Got { record, length })
 }
 
 // The record in front of the bytes, of any kind.
-pub fn read_record(bytes: &[u8]) -> Read
-    ensures { result ≡ read_of true bytes.now }
+pub fn read_record(bytes: &[u8]) -> Result<Got, Unread>
+    ensures { read_by result ≡ read_of true bytes.now }
 {
     read_among(bytes, true)
 }
 
 // The same inside a schedule, where kind 5 is unknown.
-pub fn read_in_schedule(bytes: &[u8]) -> Read
-    ensures { result ≡ read_of false bytes.now }
+pub fn read_in_schedule(bytes: &[u8]) -> Result<Got, Unread>
+    ensures { read_by result ≡ read_of false bytes.now }
 {
     read_among(bytes, false)
 }
@@ -245,19 +250,13 @@ pub fn put_record(out: &mut [u8], at: usize, item: Record)
 }
 
 // Writes a record in front of out, where there is room; the rest of out stays.
-pub fn write_record(item: Record, out: &mut [u8]) -> Filled
+pub fn write_record(item: Record, out: &mut [u8]) -> Result<usize, Refusal>
     ensures { Writes item out.old result out.new }
 {
     let size = size_of(item);
     if out.len() < size {
-        return Filled {
-            refusal: 17,
-            filled: 0,
-        };
+        return Err(Refusal::NoRoom);
     }
     put_record(out, 0, item);
-    Filled {
-        refusal: 0,
-        filled: size,
-    }
+    Ok(size)
 }

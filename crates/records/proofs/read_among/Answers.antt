@@ -1,12 +1,13 @@
--- `records::read_among` meets its contract: the definition goes by the same refusal number. Assumes nothing.
-use borrow.Author.Tests.{eq-eqb, ne_eqb}
+-- `records::read_among` meets its contract: the definition goes by the number of the same refusal. Assumes nothing.
+use borrow.Author.Tests.{ne_eqb}
+use Rattle.order.proofs.Numbers.{number_some}
 use Rattle.records.specs.Reading.{read_of}
 use Rattle.records.proofs.read_among.Goals as goal
 
-pub returns-then-number-ne0 : goal.returns-then-number-ne0
+pub returns-in-Err : goal.returns-in-Err
 unfolding read_of
-returns-then-number-ne0 c = rw (← c.refusal-number.ensures, ne_eqb _ 0 c.if-number-ne0.true, ← c.present_of-present.ensures)
+returns-in-Err c = rw (← c.in-Err.ensures, ne_eqb _ 0 (number_some c.in-Err.refusal), ← c.present_of-present.ensures)
 
 pub returns : goal.returns
 unfolding read_of
-returns c = rw (← c.refusal-number.ensures, eq-eqb _ 0 c.if-number-ne0.false, ← c.field_of_two-kind.ensures, ← c.record_in-item.ensures, ← c.length_of-size.ensures)
+returns c = rw (← c.in_default.ensures, ← c.field_of_two-kind.ensures, ← c.record_in-record.ensures, ← c.length_of-length.ensures)

@@ -1,8 +1,8 @@
--- `records::refusal` meets its contract: what was read is put back into the definition, and each way out is the first number
+-- `records::check_record` meets its contract: what was read is put back into the definition, and each way out is the first number
 -- whose condition holds. Assumes nothing.
 use Rattle.order.proofs.Order.{order}
 use Rattle.records.specs.Reading.{known, read_no}
-use Rattle.records.proofs.refusal.Goals as goal
+use Rattle.records.proofs.check_record.Goals as goal
 
 pub returns-then-bytes-lt4 : goal.returns-then-bytes-lt4
 unfolding read_no known
