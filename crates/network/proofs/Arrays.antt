@@ -30,7 +30,7 @@ tabulate_ext f g n h =
     let m : i < n = omega (arith, length_tabulate f n) in
     get_d_tabulate f n i m ∙ h i m ∙ sym (get_d_tabulate g n i m))
 
-get_or_zeros : (n v : ℕ) → ◌≡◌ {A = ℕ} (get_or (replicate n 0) v 0) 0
+pub get_or_zeros : (n v : ℕ) → ◌≡◌ {A = ℕ} (get_or (replicate n 0) v 0) 0
 get_or_zeros zero v = refl
 get_or_zeros (suc n) zero = refl
 get_or_zeros (suc n) (suc v) = get_or_zeros n v
@@ -59,7 +59,7 @@ module _ (f : ℕ → ℕ) (n : ℕ) where
   length_array l = simp length-append (omega (arith, length_tabulate f n, length-replicate {A = ℕ} (64 - n) 0))
 
   -- an array that holds the row is the row's
-  row→array : (a : List ℕ) → n ≤ 64 → length a ≡ 64 → RowIs a n f → a ≡ array_of f n
+  pub row→array : (a : List ℕ) → n ≤ 64 → length a ≡ 64 → RowIs a n f → a ≡ array_of f n
   row→array a l e r =
       ext_get_or 0 a (array_of f n) (e ∙ sym (length_array l))
       (λ v m. elim (dec_lt v n) [

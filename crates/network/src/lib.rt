@@ -160,18 +160,26 @@ fn fed_place(feed: Feed, h: usize, inner: &[u8; ROW], v: usize) -> u8
     if to.second { (h as u8) + x } else { x }
 }
 
+// The bytes place(0), place(1), .., n of them, in front of an array of zeros.
+pub fn filled<F: Fn(usize) -> u8>(n: usize, place: F) -> [u8; ROW]
+    requires room { n ≤ 64 }
+    requires ready { (v : ℕ) → v < n → F.pre place v }
+    ensures front { (v : ℕ) → v < n → F.post place v (get_or result v 0) }
+    ensures rest { (v : ℕ) → n ≤ v → get_or result v 0 ≡ 0 }
+{
+    let mut out = [0; ROW];
+    for v in 0..n {
+        out[v] = place(v);
+    }
+    out
+}
+
 // The row of such a layer.
 fn feed_row(feed: Feed, h: usize, inner: [u8; ROW]) -> [u8; ROW]
     requires { (h ≤ 32) × ((i : ℕ) → i < h → get_or inner i 0 < h) }
     ensures { result ≡ array_of (feed_at feed h (λ i. get_or inner i 0)) (2 * h) }
 {
-    let mut out = [0u8; ROW];
-    let mut v = 0;
-    while v < 2 * h {
-        out[v] = fed_place(feed, h, &inner, v);
-        v += 1;
-    }
-    out
+    filled(2 * h, |v| fed_place(feed, h, &inner, v))
 }
 
 // The place that wire v feeds in the last layer of a merger or a block of width 2h.
@@ -186,13 +194,7 @@ fn last_row(h: usize) -> [u8; ROW]
     requires { h ≤ 32 }
     ensures { result ≡ array_of (last_at h) (2 * h) }
 {
-    let mut out = [0u8; ROW];
-    let mut v = 0;
-    while v < 2 * h {
-        out[v] = last_place(h, v) as u8;
-        v += 1;
-    }
-    out
+    filled(2 * h, |v| last_place(h, v) as u8)
 }
 
 // The feed of a layer: the part's own at its first layer, side by side after that.
