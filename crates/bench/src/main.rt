@@ -6,7 +6,7 @@
 // does the same in plain C.
 #![tactic(auto)]
 
-ghost use Rattle.std.specs.Prelude.{◌≡◌, ◌≤◌, EachIndex, slice_index, length};
+ghost use Rattle.std.specs.Prelude.{◌≡◌, ◌≤◌, length};
 
 use moves::Turn;
 use outcome::Outcome;
@@ -79,7 +79,7 @@ fn requests(construction: u16, n: u64) -> u64 {
 // ---- 3 and 4
 
 fn sheets_filled(n: u64) -> u64 {
-    let mut out: [u8; 4096] = streams::zeros();
+    let mut out: [u8; 4096] = streams::buffer_of(0);
     let mut sum = 0u64;
     let mut i = 0u64;
     while i < n {
@@ -108,17 +108,9 @@ fn lopsided() -> Run {
     x
 }
 
-// So many zeros; see `streams::zeros`.
-fn zeros<const N: usize>() -> [u32; N]
-    ensures long { length result ≡ N }
-    ensures zero { EachIndex result (λ i. slice_index result i ≡ 0) }
-{
-    [0; N]
-}
-
 fn gaps_listed(n: u64) -> u64 {
     let x = lopsided();
-    let mut out: [u32; 65536] = zeros();
+    let mut out: [u32; 65536] = streams::buffer_of(0);
     let mut sum = 0u64;
     let mut i = 0u64;
     while i < n {
@@ -164,7 +156,7 @@ fn record_again(i: u64, out: &mut [u8]) -> u64 {
 }
 
 fn records_again(n: u64) -> u64 {
-    let mut out: [u8; 4096] = streams::zeros();
+    let mut out: [u8; 4096] = streams::buffer_of(0);
     let mut sum = 0u64;
     let mut i = 0u64;
     while i < n {
@@ -266,15 +258,15 @@ fn run_again(bytes: &[u8], size: usize, out: &mut [u8], n: u64) -> u64 {
 }
 
 fn schedules_run(requests: u32, size: usize, n: u64) -> u64 {
-    let mut bytes: [u8; 65536] = streams::zeros();
-    let mut out: [u8; 65536] = streams::zeros();
+    let mut bytes: [u8; 65536] = streams::buffer_of(0);
+    let mut out: [u8; 65536] = streams::buffer_of(0);
     put_schedule(requests, &mut bytes);
     run_again(&bytes, size, &mut out, n)
 }
 
 fn schedules_listed(n: u64) -> u64 {
-    let mut bytes: [u8; 65536] = streams::zeros();
-    let mut out: [u8; 65536] = streams::zeros();
+    let mut bytes: [u8; 65536] = streams::buffer_of(0);
+    let mut out: [u8; 65536] = streams::buffer_of(0);
     put_schedule(468, &mut bytes);
     let mut sum = 0u64;
     let mut i = 0u64;
@@ -321,7 +313,7 @@ fn read_again(bytes: &[u8], size: usize, n: u64) -> u64 {
     if bytes.len() < size {
         return 0;
     }
-    let mut sheet: [u8; 2368] = streams::zeros();
+    let mut sheet: [u8; 2368] = streams::buffer_of(0);
     let mut sum = 0u64;
     let mut i = 0u64;
     while i < n {
@@ -334,7 +326,7 @@ fn read_again(bytes: &[u8], size: usize, n: u64) -> u64 {
 }
 
 fn designs_read(size: u16, n: u64) -> u64 {
-    let mut bytes: [u8; 65535] = streams::zeros();
+    let mut bytes: [u8; 65535] = streams::buffer_of(0);
     put_design(size, &mut bytes);
     read_again(&bytes, size as usize, n)
 }

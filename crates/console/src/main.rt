@@ -238,9 +238,9 @@ fn serve<R: Read, W: Write>(
 
 // The input holds the longest line and its line feed, the text the longest answer: 65,536 numbers of 10 digits.
 fn main(rt: HostRuntime) -> io::Result<()> {
-    let mut input: [u8; 262_145] = streams::zeros();
-    let mut text: [u8; 800_000] = streams::zeros();
-    let mut sheet: [u8; 65_536] = streams::zeros();
+    let mut input: [u8; 262_145] = streams::buffer_of(0);
+    let mut text: [u8; 800_000] = streams::buffer_of(0);
+    let mut sheet: [u8; 65_536] = streams::buffer_of(0);
     serve(
         &mut rt.stdin(),
         &mut rt.stdout(),

@@ -17,9 +17,9 @@ fn list_all(bytes: &[u8], out: &mut [u8]) -> usize
 }
 
 fn main(rt: HostRuntime) -> io::Result<()> {
-    let mut input: [u8; 65537] = streams::zeros();
+    let mut input: [u8; 65537] = streams::buffer_of(0);
     let n = streams::read_full(&mut rt.stdin(), &mut input)?;
-    let mut out: [u8; 350000] = streams::zeros();
+    let mut out: [u8; 350000] = streams::buffer_of(0);
     let filled = list_all(&input[..n], &mut out);
     rt.write_all(&out[..filled])
 }

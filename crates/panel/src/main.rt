@@ -18,9 +18,9 @@ fn print_all(design: &[u8], out: &mut [u8]) -> usize
 }
 
 fn main(rt: HostRuntime) -> io::Result<()> {
-    let mut input: [u8; 65537] = streams::zeros();
+    let mut input: [u8; 65537] = streams::buffer_of(0);
     let n = streams::read_full(&mut rt.stdin(), &mut input)?;
-    let mut out: [u8; 50000] = streams::zeros();
+    let mut out: [u8; 50000] = streams::buffer_of(0);
     let filled = print_all(&input[..n], &mut out);
     rt.write_all(&out[..filled])
 }

@@ -1,7 +1,7 @@
 // Reading into a lent buffer, from any reader, writing one to any writer, and buffers to lend. Nothing is allocated.
 #![tactic(auto)]
 
-ghost use Rattle.std.specs.Prelude.{◌≡◌, ℕ, ◌+◌, ◌<◌, ◌≤◌, IfOk, OnOk, OnErr, EachIndex, slice_index, length, take, drop};
+ghost use Rattle.std.specs.Prelude.{◌≡◌, ℕ, ◌+◌, ◌<◌, ◌≤◌, IfOk, OnOk, OnErr, All, length, take, drop};
 ghost use Rattle.std.specs.Io.KnownBytes.{Appends, Consumes, IsAtEnd, Keeps};
 
 use std::io;
@@ -29,6 +29,7 @@ pub fn read_full<R: Read>(reader: &mut R, buf: &mut [u8]) -> io::Result<usize>
     ensures err { OnErr result ((n : ℕ) × (n ≤ length buf.new) × Consumes (R.remaining reader.old) (R.remaining reader.new) (take n buf.new)) }
 {
     let mut done = 0;
+    // no `for`: how far a turn comes is the reader's to say
     while done < buf.len() {
         let n = read_behind(reader, buf, done)?;
         if n == 0 {
@@ -45,6 +46,7 @@ pub fn write_whole<W: Write>(writer: &mut W, bytes: &[u8]) -> io::Result<()>
     ensures err { OnErr result ((n : ℕ) × (n ≤ length bytes.now) × Appends (W.contents writer.old) (W.contents writer.new) (take n bytes.now)) }
 {
     let mut done = 0;
+    // no `for`: how far a turn comes is the writer's to say; and the library's `write_all` tells nothing of what an error leaves
     while done < bytes.len() {
         let taken = writer.write(&bytes[done..])?;
         if taken == 0 {
@@ -55,11 +57,11 @@ pub fn write_whole<W: Write>(writer: &mut W, bytes: &[u8]) -> io::Result<()>
     Ok(())
 }
 
-// So many zeros, to be lent as a buffer. A program with a long one asks for it here: of a literal that long a proof would work out
-// each byte.
-pub fn zeros<const N: usize>() -> [u8; N]
+// A buffer to lend, of so many copies of a value. A program with a long one asks for it here: of a literal that long a proof would
+// work out each of them.
+pub fn buffer_of<T: Copy, const N: usize>(value: T) -> [T; N]
     ensures long { length result ≡ N }
-    ensures zero { EachIndex result (λ i. slice_index result i ≡ 0) }
+    ensures each { All (λ x. x ≡ value) result }
 {
-    [0; N]
+    [value; N]
 }

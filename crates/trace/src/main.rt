@@ -18,9 +18,9 @@ fn trace_all(bytes: &[u8], out: &mut [u8]) -> usize
 }
 
 fn main(rt: HostRuntime) -> io::Result<()> {
-    let mut input: [u8; 65537] = streams::zeros();
+    let mut input: [u8; 65537] = streams::buffer_of(0);
     let n = streams::read_full(&mut rt.stdin(), &mut input)?;
-    let mut out: [u8; 1500000] = streams::zeros();
+    let mut out: [u8; 1500000] = streams::buffer_of(0);
     let filled = trace_all(&input[..n], &mut out);
     rt.write_all(&out[..filled])
 }
