@@ -5,5 +5,5 @@ use Rattle.console_lines.proofs.parts.next_of.Goals as goal
 pub returns-then-end-text : goal.returns-then-end-text
 returns-then-end-text c = next_behind _ _ c.end_of-end.ensures c.if-end-text.true
 
-pub returns : goal.returns
-returns c = next_none _ _ c.end_of-end.ensures c.if-end-text.false
+pub returns-else-end-text : goal.returns-else-end-text
+returns-else-end-text c = next_none _ _ c.end_of-end.ensures c.if-end-text.false
