@@ -1,15 +1,17 @@
 -- Laws of writing. In order: bytes placed behind bytes; the length of a record's bytes; what the writer answers and leaves.
 -- Assumes nothing.
 use Prim.Native.Nat.{ℕ, ◌+◌, ◌≤◌, ◌<◌}
-use mathlib.Core.Path.{◌≡◌, refl, ◌∙◌}
-use mathlib.Core.List.{List, [], ◌∷◌, ◌++◌, append_assoc}
+use mathlib.Core.Path.{◌≡◌, refl, sym, ◌∙◌}
+use mathlib.Core.List.{List, ◌++◌, append_assoc}
 use native.Mathlib.Omega.{arith}
-use native.Mathlib.Numerals.{add-one}
 use native.Mathlib.Nat.{add_assoc, zero-add}
-use lib.ListN.{length, take, drop, set, length-append}
-use lib.Seq.{sets-eq, length-take-le, take_at, drop_at, drop-drop}
+use lib.ListN.{length, take, drop, length-append}
+use lib.Seq.{length-take-le, take_at, drop_at, drop-drop}
 use borrow.Author.Tests.{lt-ltb, le-ltb}
+use borrow.Rule.Slice.PartMut.{put_mid}
 use Rattle.std.proofs.Common.{Ok, Err}
+use Rattle.std.proofs.lemmas.Slice.{put_mid-paste}
+use Rattle.std.proofs.lemmas.List.Edits.{paste_all}
 use Rattle.records.specs.declared.Record.{Record}
 use Rattle.records.specs.declared.Record.TheVariants.{Open, Enter, Turn, Close, Number}
 use Rattle.records.specs.Fields.{bytes_in, placed}
@@ -45,10 +47,11 @@ module _ (out : List ℕ) (at : ℕ) (a : List ℕ) (within : at ≤ length out)
       → after ≡ placed between next b → after ≡ placed out at (a ++ b)
   placed_then b between after next first e last = last ∙ rw (first, e) (placed_placed b)
 
--- two bytes stored one behind the other
-pub placed_two : (out : List ℕ) (at x y : ℕ) → at + 2 ≤ length out → set (set out at x) (at + 1) y ≡ placed out at (x ∷ y ∷ [])
+-- bytes copied into the part from a place on
+pub placed_part : (out part bytes : List ℕ) (at k : ℕ) → k ≡ length bytes → part ≡ bytes → put_mid at k out part ≡ placed out at bytes
 unfolding placed
-placed_two out at x y fits = rw (add-one at, ← append_assoc) (sets-eq (x ∷ y ∷ []) out at fits)
+placed_part out part bytes at k long copied =
+    put_mid-paste at k out part bytes (length bytes) copied (sym long) refl ∙ paste_all out at bytes (length bytes) refl
 
 pub size_fields : (r : Record) → size_of r ≡ 4 + length (fields_of r)
 unfolding size_of length_of bytes_in

@@ -1,7 +1,7 @@
 // The records of a schedule: read from bytes and written to bytes. A record carries any field values; only running judges them.
 #![tactic(auto)]
 
-ghost use Rattle.std.specs.Prelude.{◌≡◌, true, false, ◌++◌, ◌+◌, ◌≤◌, length, get_or};
+ghost use Rattle.std.specs.Prelude.{◌≡◌, true, false, ◌++◌, ◌+◌, ◌≤◌, length, drop, get_or};
 ghost use Rattle.order.specs.Order.{number_of, refused_by};
 ghost use Rattle.records.specs.Fields.{field, bytes_in, placed};
 ghost use Rattle.records.specs.Reading.{length_of, record_in, read_no, present_of, read_of, read_by};
@@ -32,35 +32,39 @@ pub struct Unread {
     pub present: usize,
 }
 
+// The bytes from a place on, none past the end.
+fn behind(bytes: &[u8], at: usize) -> &[u8]
+    ensures { result.now ≡ drop at bytes.now }
+{
+    bytes.get(at..).unwrap_or(&[])
+}
+
 // The byte at a place, 0 past the end.
 fn byte_at(bytes: &[u8], at: usize) -> u8
     ensures { result ≡ get_or bytes.now at 0 }
 {
-    if at < bytes.len() { bytes[at] } else { 0 }
+    bytes.get(at).copied().unwrap_or(0)
 }
 
 // The field of two bytes at a place; a byte past the end counts as 0.
 pub fn field_of_two(bytes: &[u8], at: usize) -> u16
     ensures { result ≡ field 2 bytes.now at }
 {
-    if bytes.len() <= at {
-        return 0;
-    }
-    let low = byte_at(bytes, at) as u16;
-    let high = byte_at(bytes, at + 1) as u16;
-    low + 256 * high
+    let field = behind(bytes, at);
+    u16::from_le_bytes([byte_at(field, 0), byte_at(field, 1)])
 }
 
 // The same of four bytes.
 pub fn field_of_four(bytes: &[u8], at: usize) -> u32
     ensures { result ≡ field 4 bytes.now at }
 {
-    if bytes.len() <= at {
-        return 0;
-    }
-    let low = field_of_two(bytes, at) as u32;
-    let high = field_of_two(bytes, at + 2) as u32;
-    low + 65536 * high
+    let field = behind(bytes, at);
+    u32::from_le_bytes([
+        byte_at(field, 0),
+        byte_at(field, 1),
+        byte_at(field, 2),
+        byte_at(field, 3),
+    ])
 }
 
 // The length of a record of a kind, 0 where there is no such kind.
@@ -69,10 +73,8 @@ fn length_of(kind: u16) -> u16
     ensures { result ≡ length_of kind }
 {
     match kind {
-        1 => 8,
-        2 => 8,
+        1 | 2 | 4 => 8,
         3 => 6,
-        4 => 8,
         5 => 12,
         _ => 0,
     }
@@ -170,8 +172,14 @@ fn put16(out: &mut [u8], at: usize, v: u16)
     requires { at + 2 ≤ length out.old }
     ensures { out.new ≡ placed out.old at (bytes_in 2 v) }
 {
-    out[at] = (v % 256) as u8;
-    out[at + 1] = (v / 256 % 256) as u8;
+    out[at..at + 2].copy_from_slice(&v.to_le_bytes());
+}
+
+fn put32(out: &mut [u8], at: usize, v: u32)
+    requires { at + 4 ≤ length out.old }
+    ensures { out.new ≡ placed out.old at (bytes_in 4 v) }
+{
+    out[at..at + 4].copy_from_slice(&v.to_le_bytes());
 }
 
 fn put_pair(out: &mut [u8], at: usize, a: u16, b: u16)
@@ -182,29 +190,15 @@ fn put_pair(out: &mut [u8], at: usize, a: u16, b: u16)
     put16(out, at + 2, b);
 }
 
-fn put32(out: &mut [u8], at: usize, v: u32)
-    requires { at + 4 ≤ length out.old }
-    ensures { out.new ≡ placed out.old at (bytes_in 4 v) }
-{
-    put_pair(out, at, (v % 65536) as u16, (v / 65536) as u16);
-}
-
 fn kind_of(item: Record) -> u16
     ensures { result ≡ kind_of item }
 {
     match item {
-        Record::Open {
-            width: _,
-            construction: _,
-        } => 1,
-        Record::Enter { token: _, wire: _ } => 2,
-        Record::Turn { token: _ } => 3,
-        Record::Close { entered: _ } => 4,
-        Record::Number {
-            token: _,
-            wire: _,
-            number: _,
-        } => 5,
+        Record::Open { .. } => 1,
+        Record::Enter { .. } => 2,
+        Record::Turn { .. } => 3,
+        Record::Close { .. } => 4,
+        Record::Number { .. } => 5,
     }
 }
 

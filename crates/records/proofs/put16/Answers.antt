@@ -1,13 +1,10 @@
--- `records::put16` meets its contract: two stores are two bytes placed. Assumes nothing.
+-- `records::put16` meets its contract: the part that is lent comes back as the two bytes. Assumes nothing.
+use mathlib.Core.Path.{◌∙◌}
 use native.Mathlib.Omega.{arith}
-use lib.ListN.{length-set}
 use Rattle.records.specs.Fields.{bytes_in}
-use Rattle.records.proofs.Writing.{placed_two}
+use Rattle.records.proofs.Writing.{placed_part}
 use Rattle.records.proofs.put16.Goals as goal
-
-pub bounds-out-at-2 : goal.bounds-out-at-2
-bounds-out-at-2 c = simp length-set (omega arith)
 
 pub returns : goal.returns
 unfolding bytes_in
-returns c = placed_two _ _ _ _ c.requires
+returns c = placed_part _ _ (bytes_in 2 c.args.v) _ _ (omega arith) (c.copy_from_slice.ensures.after ∙ c.to_le_bytes.ensures)
