@@ -14,12 +14,10 @@ use lib.Dec.{ltb, eqb}
 use borrow.Author.Tests.{lt-ltb, le-ltb, ltb-false, eq-eqb, ne_eqb}
 use Rattle.board.proofs.Lists.{cond_case}
 use Rattle.records.specs.declared.Record.{Record}
-use Rattle.records.specs.declared.Read.TheVariants.{Got, Refused as Unread}
-use Rattle.records.specs.Reading.{length_in, read_of}
+use Rattle.records.specs.Reading.{Got, Refused as Unread, length_in, read_of}
 use Rattle.records.proofs.Reading.{read→gotten, read_length}
 use Rattle.records.proofs.Cut.{drop_take, read_head_cut, read_whole, read_body_cut}
-use Rattle.outcome.specs.declared.Outcome.{Outcome}
-use Rattle.outcome.specs.declared.Outcome.TheVariants.{Accepted, Refused}
+use Rattle.outcome.specs.Outcome.{Outcome, Accepted, Refused}
 use Rattle.outcome.specs.Course.{Course, at_start, Step}
 use Rattle.outcome.specs.Schedule.{Told, record_at, tell_from, tell}
 use Rattle.outcome.specs.Whole.{settle, run_of, values_of}
