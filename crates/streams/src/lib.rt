@@ -1,4 +1,5 @@
-// Reading into a lent buffer, from any reader, writing one to any writer, and buffers to lend. Nothing is allocated.
+// Reading into a lent buffer, from any reader, writing one to any writer, buffers to lend, and the program that tells a text of its
+// input. Nothing is allocated.
 #![tactic(auto)]
 
 ghost use Rattle.std.specs.Prelude.{◌≡◌, ℕ, ◌+◌, ◌<◌, ◌≤◌, IfOk, OnOk, OnErr, All, length, take, drop};
@@ -64,4 +65,20 @@ pub fn buffer_of<T: Copy, const N: usize>(value: T) -> [T; N]
     ensures each { All (λ x. x ≡ value) result }
 {
     [value; N]
+}
+
+// The program that tells a text of its input: it reads the input, has the text put into `out`, and writes it. It stops reading behind
+// byte 65,537: the longest input that is of use is shorter.
+pub fn tell<F: FnOnce(&[u8], &mut [u8]) -> usize>(
+    rt: &HostRuntime,
+    out: &mut [u8],
+    put: F,
+) -> io::Result<()>
+    requires takes { (bytes lent : _) → length lent.now ≡ length out.old → F.pre put bytes lent }
+    requires within { (bytes lent n left : _) → length lent.now ≡ length out.old → F.post put bytes lent n left → n ≤ length left.now }
+{
+    let mut input: [u8; 65537] = buffer_of(0);
+    let n = read_full(&mut rt.stdin(), &mut input)?;
+    let end = put(&input[..n], out);
+    rt.write_all(&out[..end])
 }
