@@ -2,7 +2,6 @@
 // bytes are dropped up to its end. The last line need not end in a line feed.
 ghost use Rattle.std.specs.Prelude.{◌≡◌, ◌≤◌, IfOk, IfSome, OnErr, length};
 
-use crate::parts;
 use std::io;
 use std::io::Read;
 
@@ -89,7 +88,8 @@ fn seek(input: &[u8], mut lines: Lines) -> Lines
     requires { lines.to ≤ length input.now }
     ensures { result.to ≡ lines.to }
 {
-    lines.end = parts::end_of(&input[..lines.to], lines.end, b'\n');
+    let held = &input[lines.end..lines.to];
+    lines.end += held.iter().take_while(|glyph| **glyph != b'\n').count();
     lines
 }
 
