@@ -17,7 +17,7 @@ use run::Run;
 
 // How many numbers an exit with this count is short of its share of the numbers below n.
 #[tactic(auto, unfolding(rest::specs::Share::share))]
-fn short_of(w: usize, n: usize, exit: usize, count: usize) -> usize
+fn short_of(w: u32, n: u32, exit: u32, count: u32) -> u32
     requires { (0 < w) × (w ≤ 64) × (n ≤ max_entered) }
     ensures { result ≡ share n exit w - count }
 {
@@ -26,42 +26,42 @@ fn short_of(w: usize, n: usize, exit: usize, count: usize) -> usize
 }
 
 // How many numbers below entered are missing.
-fn missing_below(w: usize, board: &Board) -> usize
+fn missing_below(w: u32, board: &Board) -> u32
     requires { CanWalk w board.now }
     ensures { result ≡ length (gaps_of w board.now) }
 {
-    let n = board.entered as usize;
     let mut total = 0;
     for i in 0..w {
-        total += short_of(w, n, i, board.counts[i] as usize);
+        total += short_of(w, board.entered, i, board.counts[i as usize]);
     }
     total
 }
 
 // The missing numbers below entered, rising, in front of what is lent.
-fn write_missing(w: usize, board: &Board, out: &mut [u32])
+fn write_missing(w: u32, board: &Board, out: &mut [u32])
     requires { CanWalk w board.now × (length (gaps_of w board.now) ≤ length out.old) }
     ensures { out.new ≡ over (gaps_of w board.now) out.old }
 {
     let n = board.entered;
     let mut at = 0;
     for v in 0..n {
-        let exit = v as usize % w;
-        if board.counts[exit] as usize <= v as usize / w {
+        let exit = (v % w) as usize;
+        if board.counts[exit] <= v / w {
             out[at] = v;
             at += 1;
         }
     }
 }
 
-// The gap list of a board of width w, in front of what is lent: 17 where there is no room for it. Who calls has judged the record
+// The gap list of a board of this width, in front of what is lent: 17 where there is no room for it. Who calls has judged the record
 // sound.
 #[tactic(auto, unfolding(crate::specs::Gaps::gaps_no, order::specs::Order::first_of))]
-pub fn fill(w: usize, board: &Board, out: &mut [u32]) -> Result<usize, Refusal>
-    requires { CanWalk w board.now }
-    ensures { GapsIs true w board.now out.old out.new result }
+pub fn fill(width: u16, board: &Board, out: &mut [u32]) -> Result<usize, Refusal>
+    requires { CanWalk width board.now }
+    ensures { GapsIs true width board.now out.old out.new result }
 {
-    let filled = missing_below(w, board);
+    let w = u32::from(width);
+    let filled = missing_below(w, board) as usize;
     if out.len() < filled {
         return Err(Refusal::NoRoom);
     }
@@ -77,5 +77,5 @@ pub fn gap_list(run: Run, out: &mut [u32]) -> Result<usize, Refusal>
     if !run.is_sound() {
         return Err(Refusal::NotSound);
     }
-    fill(usize::from(run.width), &run.board, out)
+    fill(run.width, &run.board, out)
 }

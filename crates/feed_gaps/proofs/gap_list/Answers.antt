@@ -8,4 +8,4 @@ pub fill-requires : goal.fill-requires
 fill-requires c =
     let p = parts _ (sym c.if-not-is_sound.ensures) in
     let size = sized_parts p in
-    rw c.from.ensures (can_walk _ _ _ p.board size.within.some size.within.wide)
+    can_walk _ _ _ p.board size.within.some size.within.wide

@@ -8,4 +8,4 @@ use Rattle.gaps.proofs.gap_list.Goals as goal
 pub fill-requires : goal.fill-requires
 fill-requires c =
     let p = parts _ (sym c.if-not-is_sound.ensures) in
-    rw c.from.ensures (can_walk _ _ _ p.board (width_some _ p.width) (width_small _ p.width))
+    can_walk _ _ _ p.board (width_some _ p.width) (width_small _ p.width)
