@@ -1,7 +1,7 @@
 // Numbers from text: decimal numbers, and bytes as pairs of hex digits.
 ghost use Rattle.std.specs.Prelude.{◌≡◌};
 ghost use Rattle.console_lines.specs.Digits.{NumberIs, digit_in, is_number};
-ghost use Rattle.console_lines.specs.Hex.{HexIs, HexPut, is_pairs};
+ghost use Rattle.console_lines.specs.Hex.{HexPut, is_hex, is_pairs};
 
 // The value of a digit below the base, up to 16. Letters are lower case.
 #[tactic(auto, unfolding(crate::specs::Digits::digit_of))]
@@ -43,7 +43,7 @@ fn is_pairs(text: &[u8]) -> bool
 
 // Is the text such pairs, a byte each, or `-` for no bytes?
 pub fn is_hex(text: &[u8]) -> bool
-    ensures { HexIs text.now result }
+    ensures { result ≡ is_hex text.now }
 {
     text == b"-".as_slice() || is_pairs(text)
 }
