@@ -92,21 +92,21 @@ module _ {text out₀ out : List ℕ} {at next i : ℕ} (l : Leads (drop i text)
   bytes_all h = leads_none (rw (drop_of_length-le text h) at l)
 
 -- ---- the texts of a list's members, i of them passed
-pub record Going (text : ℕ → List ℕ) (values : List ℕ) (at : ℕ) (out₀ : List ℕ) (next i : ℕ) (out : List ℕ) : Type 0 where
+pub record Going {A : Type 0} (text : A → List ℕ) (values : List A) (at : ℕ) (out₀ : List ℕ) (next i : ℕ) (out : List ℕ) : Type 0 where
   pub leads : Leads (each text (drop i values)) (each text values) at out₀ next out
 
-each_more : (text : ℕ → List ℕ) (values : List ℕ) (i : ℕ) → i < length values
-    → text (get_or values i 0) ++ each text (drop (i + 1) values) ≡ each text (drop i values)
+each_more : {A : Type 0} (text : A → List ℕ) (values : List A) (d : A) (i : ℕ) → i < length values
+    → text (get_or values i d) ++ each text (drop (i + 1) values) ≡ each text (drop i values)
 unfolding each
-each_more text values i h = rw (add-one i, drop-cons values i 0 h)
+each_more text values d i h = rw (add-one i, drop-cons values i d h)
 
-each_none : (text : ℕ → List ℕ) (values : List ℕ) (i : ℕ) → length values ≤ i → each text (drop i values) ≡ []
+each_none : {A : Type 0} (text : A → List ℕ) (values : List A) (i : ℕ) → length values ≤ i → each text (drop i values) ≡ []
 unfolding each
 each_none text values i h = rw (drop_of_length-le values h)
 
-module _ {text : ℕ → List ℕ} {values out₀ out : List ℕ} {at next i : ℕ} (g : Going text values at out₀ next i out) where
-  pub going_more : i < length values → {next' : ℕ} {out' : List ℕ} → Puts (text (get_or values i 0)) next out next' out' → Going text values at out₀ next' (i + 1) out'
-  going_more h p = record { leads = leads_on _ (rw (each_more text values i h) g.leads) p }
+module _ {A : Type 0} {text : A → List ℕ} {values : List A} {out₀ out : List ℕ} {at next i : ℕ} (g : Going text values at out₀ next i out) where
+  pub going_more : (d : A) → i < length values → {next' : ℕ} {out' : List ℕ} → Puts (text (get_or values i d)) next out next' out' → Going text values at out₀ next' (i + 1) out'
+  going_more d h p = record { leads = leads_on _ (rw (each_more text values d i h) g.leads) p }
 
   pub going_all : length values ≤ i → Puts (each text values) at out₀ next out
   going_all h = leads_none (rw (each_none text values i h) at g.leads)

@@ -61,6 +61,7 @@ pub fn put_row(out: &mut [u8], at: usize, values: &[usize]) -> usize
 
 // ---- bytes in hex
 
+#[tactic(auto, unfolding(crate::specs::Numbers::hex_digit))]
 fn hex_digit(value: u8) -> u8
     requires { value < 16 }
     ensures { result ≡ hex_digit value }

@@ -7,7 +7,7 @@ use Rattle.text.proofs.put_row.Goals as goal
 
 pub loop-value-preserved : goal.loop-value-preserved
 unfolding blank_number letters
-loop-value-preserved c = going_more c.loop-value.invariant c.loop-value-test.true (puts_then c.put_byte-blank.ensures c.put_decimal-next.ensures)
+loop-value-preserved c = going_more c.loop-value.invariant 0 c.loop-value-test.true (puts_then c.put_byte-blank.ensures c.put_decimal-next.ensures)
 
 pub returns : goal.returns
 returns c = going_all c.loop-value.invariant c.loop-value-test.false
