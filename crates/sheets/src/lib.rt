@@ -15,11 +15,8 @@ pub fn put_row(out: &mut [u8], row: [u8; network::ROW])
     requires { length out.old ≤ 64 }
     ensures { out.new ≡ take (length out.old) row }
 {
-    let mut i = 0;
-    while i < out.len() {
-        out[i] = row[i];
-        i += 1;
-    }
+    let wires = out.len();
+    out.copy_from_slice(&row[..wires]);
 }
 
 // The rows of all layers.
@@ -28,17 +25,15 @@ fn put_rows(width: u16, construction: u16, depth: u16, out: &mut [u8])
     ensures { out.new ≡ rows (place_of width construction) width depth ++ drop (depth * width) out.old }
 {
     let w = width as usize;
-    let mut layer = 0u16;
-    while layer < depth {
+    for layer in 0..depth {
         let row = network::row(width, construction, layer);
-        let at = (layer as usize) * w;
-        let end = at + w;
-        put_row(&mut out[at..end], row);
-        layer += 1;
+        let at = layer as usize * w;
+        put_row(&mut out[at..at + w], row);
     }
 }
 
 // The bytes of a sheet; 0 where the width is not allowed.
+#[tactic(auto, using(network::proofs::Widths::depth_of_small), unfolding(crate::specs::Sheets::sheet_length))]
 fn sheet_length(width: u16, construction: u16) -> usize
     ensures { result ≡ sheet_length width construction }
 {
@@ -46,6 +41,7 @@ fn sheet_length(width: u16, construction: u16) -> usize
     (depth as usize) * (width as usize)
 }
 
+#[tactic(auto, using(order::proofs::Numbers::number_some), unfolding(crate::specs::Sheets::sheet_no, network::specs::Widths::open_no, order::specs::Order::first_of))]
 fn check_sheet(width: u16, construction: u16, room: usize) -> Result<(), Refusal>
     ensures { refused_by result ≡ sheet_no width construction room }
 {
@@ -67,6 +63,7 @@ pub fn sheet(width: u16, construction: u16, out: &mut [u8]) -> Result<usize, Ref
 }
 
 // May the row of a layer be viewed in a sheet of that many bytes?
+#[tactic(auto, using(order::proofs::Numbers::number_some), unfolding(crate::specs::Sheets::view_no, network::specs::Widths::open_no, order::specs::Order::first_of))]
 fn check_view_in(width: u16, construction: u16, layer: u16, room: usize) -> Result<(), Refusal>
     ensures { refused_by result ≡ view_no width construction layer room }
 {
@@ -80,6 +77,18 @@ fn check_view_in(width: u16, construction: u16, layer: u16, room: usize) -> Resu
     Ok(())
 }
 
+// The sheet that the construction says.
+fn chosen<'a>(construction: u16, bitonic: &'a [u8], periodic: &'a [u8]) -> &'a [u8]
+    ensures bytes { result.now ≡ chosen construction bitonic.now periodic.now }
+    ensures there { result.ref_ptr ≡ chosen construction bitonic.entry.ref_ptr periodic.entry.ref_ptr }
+{
+    if construction == network::BITONIC {
+        bitonic
+    } else {
+        periodic
+    }
+}
+
 // Why the view of a layer's row is refused.
 pub fn check_view(
     width: u16,
@@ -90,10 +99,8 @@ pub fn check_view(
 ) -> Result<(), Refusal>
     ensures { refused_by result ≡ view_no width construction layer (length (chosen construction bitonic.now periodic.now)) }
 {
-    if construction == 1 {
-        return check_view_in(width, construction, layer, bitonic.len());
-    }
-    check_view_in(width, construction, layer, periodic.len())
+    let sheet = chosen(construction, bitonic, periodic);
+    check_view_in(width, construction, layer, sheet.len())
 }
 
 // The row in one sheet, or nothing.
@@ -104,9 +111,8 @@ fn row_in<'a>(width: u16, construction: u16, layer: u16, sheet: &'a [u8]) -> &'a
         return &sheet[0..0];
     }
     let w = width as usize;
-    let at = (layer as usize) * w;
-    let end = at + w;
-    &sheet[at..end]
+    let at = layer as usize * w;
+    &sheet[at..at + w]
 }
 
 // The row of a layer in the sheet that the construction says; empty where that is refused.
@@ -119,8 +125,6 @@ pub fn view<'a>(
 ) -> &'a [u8]
     ensures { ViewIs width construction layer (chosen construction bitonic.now periodic.now) (chosen construction bitonic.entry.ref_ptr periodic.entry.ref_ptr) result.now result.ref_ptr }
 {
-    if construction == 1 {
-        return row_in(width, construction, layer, bitonic);
-    }
-    row_in(width, construction, layer, periodic)
+    let sheet = chosen(construction, bitonic, periodic);
+    row_in(width, construction, layer, sheet)
 }
