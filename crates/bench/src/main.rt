@@ -187,29 +187,18 @@ fn schedules_listed(n: u64) -> u64 {
 
 // ---- 13 and 14
 
-// The byte at a place of crosses one after another behind a head of 4: each of 19 bytes, its 14 wires go round.
-fn cross_byte(at: usize) -> u8 {
-    let j = (at % 19 + 15) % 19;
-    match j {
-        0 => 19,
-        1 => 0,
-        2 => 20,
-        3 => 0,
-        4 => 14,
-        _ => ((j + 10) % 14) as u8,
-    }
-}
+// A cross of 14 wires that go round: its length and its kind, of two bytes each, its width, and the places.
+const CROSS: [u8; 19] = [
+    19, 0, 20, 0, 14, 1, 2, 3, 4, 5, 6, 7, 8, 9, 10, 11, 12, 13, 0,
+];
 
-// The head of a series of so many bytes, and the crosses.
+// The head of a series of so many bytes, and crosses one after another.
 fn put_design(size: u16, out: &mut [u8]) {
-    for (at, byte) in out.iter_mut().enumerate() {
-        *byte = match at {
-            0 => (size % 256) as u8,
-            1 => (size / 256 % 256) as u8,
-            2 => 16,
-            3 => 0,
-            _ => cross_byte(at),
-        };
+    let [low, high] = size.to_le_bytes();
+    let head = [low, high, 16, 0];
+    let design = head.iter().chain(CROSS.iter().cycle());
+    for (byte, value) in out.iter_mut().zip(design) {
+        *byte = *value;
     }
 }
 
