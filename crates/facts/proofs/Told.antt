@@ -1,20 +1,22 @@
--- An answer is what it tells in the document's numbers: of each way to tell one, two answers that tell the same are equal. In order: of
--- a check; of a call that fills a buffer; of calls by value; of reading. Assumes nothing.
+-- An answer is what it tells in the document's numbers: of each way to tell one, two answers that tell the same are equal. In order: a
+-- check; a call that fills a buffer; a call by value; a turn; reading a record; reading a design; the highest number. Assumes nothing.
 use Prim.Native.Nat.{ℕ}
 use mathlib.Core.Path.{◌≡◌, refl, sym, ap}
-use Rattle.std.specs.Prelude.{Result, Ok, Err, ⊤}
+use Rattle.std.specs.Prelude.{Result, Ok, Err, Option, Some, None, ⊤}
 use Rattle.order.specs.declared.Refusal.{Refusal}
 use Rattle.order.specs.declared.After.{After}
-use Rattle.order.specs.Order.{refused_by, filled_by}
+use Rattle.order.specs.Order.{number_of, refused_by, filled_by}
 use Rattle.order.proofs.Numbers.{number_some, number_tells, number_told}
 use Rattle.moves.specs.declared.Turn.{Turn}
 use Rattle.moves.specs.declared.Turn.TheVariants.{Passed, Dealt}
 use Rattle.moves.specs.Answer.{answered}
-use Rattle.run.specs.declared.Run.{Run}
-use Rattle.run.specs.Run.{opened, entered, turned}
 use Rattle.records.specs.declared.Got.{Got}
 use Rattle.records.specs.declared.Unread.{Unread}
 use Rattle.records.specs.Reading.{read_by}
+use Rattle.designs.specs.declared.Fault.{Fault}
+use Rattle.panels.specs.declared.Panel.{Panel}
+use Rattle.panels.specs.Answers.{answer_by}
+use Rattle.dials.specs.Highest.{top_by}
 
 pub check_told : {r s : Result ⊤ Refusal} → refused_by r ≡ refused_by s → r ≡ s
 check_told {r} {s} h = number_told r s (λ a b. refl) h
@@ -25,27 +27,29 @@ filled_told (Ok m) (Err f) h = absurd (number_some f (sym (ap (λ x. x.refusal) 
 filled_told (Err e) (Ok n) h = absurd (number_some e (ap (λ x. x.refusal) h))
 filled_told (Err e) (Err f) h = rw (number_tells e f (ap (λ x. x.refusal) h))
 
-pub answer_told : (r s : Result Turn Refusal) → answered r ≡ answered s → r ≡ s
-answer_told (Ok (Passed l v L c s)) (Ok (Passed l' v' L' c' s')) h = cc
-answer_told (Ok (Dealt i n)) (Ok (Dealt i' n')) h = cc
-answer_told (Err e) (Err f) h = let same : e ≡ f = number_tells e f cc in cc
-answer_told (Ok (Passed l v L c s)) (Ok (Dealt i' n')) h = cc
-answer_told (Ok (Dealt i n)) (Ok (Passed l' v' L' c' s')) h = cc
-answer_told (Ok (Passed l v L c s)) (Err f) h = cc
-answer_told (Ok (Dealt i n)) (Err f) h = cc
-answer_told (Err e) (Ok (Passed l' v' L' c' s')) h = cc
-answer_told (Err e) (Ok (Dealt i' n')) h = cc
-
+-- ---- by value
 after_told : {S A : Type 0} {s t : S} {x y : Result A Refusal} → x ≡ y → s ≡ t
     → ◌≡◌ {A = After S A} (record { state = s; answer = x }) (record { state = t; answer = y })
 after_told e f = rw (e, f)
 
-pub opened_told : (a b : After Run ⊤) → opened a ≡ opened b → a ≡ b
-opened_told a b h = after_told (check_told (ap (λ x. x.refusal) h)) (ap (λ x. x.run) h)
+pub entered_told : {S : Type 0} {a b : After S ⊤} → refused_by a.answer ≡ refused_by b.answer → a.state ≡ b.state → a ≡ b
+entered_told e f = after_told (check_told e) f
 
-pub turned_told : (a b : After Run Turn) → turned a ≡ turned b → a ≡ b
-turned_told a b h = after_told (answer_told a.answer b.answer (ap (λ x. x.answer) h)) (ap (λ x. x.run) h)
+answer_told : (r s : Result Turn Refusal) → answered r ≡ answered s → r ≡ s
+answer_told (Ok (Passed l v L c s)) (Ok (Passed l' v' L' c' s')) h = cc
+answer_told (Ok (Passed l v L c s)) (Ok (Dealt i' n')) h = cc
+answer_told (Ok (Passed l v L c s)) (Err f) h = cc
+answer_told (Ok (Dealt i n)) (Ok (Passed l' v' L' c' s')) h = cc
+answer_told (Ok (Dealt i n)) (Ok (Dealt i' n')) h = cc
+answer_told (Ok (Dealt i n)) (Err f) h = cc
+answer_told (Err e) (Ok (Passed l' v' L' c' s')) h = cc
+answer_told (Err e) (Ok (Dealt i' n')) h = cc
+answer_told (Err e) (Err f) h = let same : e ≡ f = number_tells e f cc in cc
 
+pub turned_told : {S : Type 0} {a b : After S Turn} → answered a.answer ≡ answered b.answer → a.state ≡ b.state → a ≡ b
+turned_told {S} {a} {b} e f = after_told (answer_told a.answer b.answer e) f
+
+-- ---- reading
 pub read_told : (r s : Result Got Unread) → read_by r ≡ read_by s → r ≡ s
 read_told (Ok a) (Ok b) h =
     let record_is : a.record ≡ b.record = cc in
@@ -53,7 +57,32 @@ read_told (Ok a) (Ok b) h =
     rw (record_is, length_is)
 read_told (Ok a) (Err v) h = cc
 read_told (Err u) (Ok b) h = cc
-read_told (Err u) (Err v) h = 
+read_told (Err u) (Err v) h =
     let refusal_is : u.refusal ≡ v.refusal = number_tells u.refusal v.refusal cc in
     let present_is : u.present ≡ v.present = cc in
     rw (refusal_is, present_is)
+
+pub panel_told : (r s : Result Panel Fault) → answer_by r ≡ answer_by s → r ≡ s
+panel_told (Ok p) (Ok q) h =
+    let width_is : p.width ≡ q.width = ap (λ x. x.width) h in
+    let depth_is : p.depth ≡ q.depth = ap (λ x. x.depth) h in
+    let filled_is : p.filled ≡ q.filled = ap (λ x. x.filled) h in
+    rw (width_is, depth_is, filled_is)
+panel_told (Ok p) (Err y) h = absurd (number_some y.refusal (sym (ap (λ x. x.refusal) h)))
+panel_told (Err x) (Ok q) h = absurd (number_some x.refusal (ap (λ x. x.refusal) h))
+panel_told (Err x) (Err y) h =
+    let refusal_is : x.refusal ≡ y.refusal = number_tells x.refusal y.refusal (ap (λ x. x.refusal) h) in
+    let offset_is : x.offset ≡ y.offset = ap (λ x. x.offset) h in
+    let present_is : x.present ≡ y.present = ap (λ x. x.present) h in
+    rw (refusal_is, offset_is, present_is)
+
+pub top_told : (r s : Result (Option ℕ) Refusal) → top_by r ≡ top_by s → r ≡ s
+top_told (Ok (Some m)) (Ok (Some n)) h = cc
+top_told (Ok (Some m)) (Ok None) h = cc
+top_told (Ok (Some m)) (Err f) h = cc
+top_told (Ok None) (Ok (Some n)) h = cc
+top_told (Ok None) (Ok None) h = refl
+top_told (Ok None) (Err f) h = cc
+top_told (Err e) (Ok (Some n)) h = cc
+top_told (Err e) (Ok None) h = cc
+top_told (Err e) (Err f) h = let same : e ≡ f = number_tells e f cc in cc
