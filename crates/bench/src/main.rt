@@ -24,9 +24,9 @@ fn repeated<F: FnMut(u64) -> u64>(n: u64, mut step: F) -> u64
     sum
 }
 
-// How much a call filled; 0 where it was refused.
-fn filled<E: Drop>(done: Result<usize, E>) -> u64 {
-    done.map_or(0, |n| n as u64)
+// How much a call filled, 0 where it was refused, and a value of what it filled.
+fn filled<E: Drop>(done: Result<usize, E>, value: u64) -> u64 {
+    value.wrapping_add(done.map_or(0, |n| n as u64))
 }
 
 // ---- 1 and 2
@@ -63,7 +63,7 @@ fn sheets_filled(n: u64) -> u64 {
     let mut out: [u8; 4096] = streams::buffer_of(0);
     repeated(n, |i| {
         let done = sheets::sheet(Run::MAX_WIDTH, Run::PERIODIC, &mut out);
-        filled(done).wrapping_add(u64::from(out[(i % 2304) as usize]))
+        filled(done, u64::from(out[(i % 2304) as usize]))
     })
 }
 
@@ -86,7 +86,7 @@ fn gaps_listed(n: u64) -> u64 {
     let mut out: [u32; 65536] = streams::buffer_of(0);
     repeated(n, |i| {
         let done = gaps::gap_list(run, &mut out);
-        filled(done).wrapping_add(u64::from(out[(i % 46875) as usize]))
+        filled(done, u64::from(out[(i % 46875) as usize]))
     })
 }
 
@@ -110,12 +110,10 @@ fn record_again(i: u64, out: &mut [u8]) -> u64 {
         wire: (i % 64) as u16,
         number: (i % 1_000_000) as u32,
     };
-    let written = filled(records::write_record(record, out));
-    records::read_record(out).map_or(written, |got| {
-        written
-            .wrapping_add(got.length as u64)
-            .wrapping_add(fields_of(got.record))
-    })
+    let written = records::write_record(record, out);
+    let read = records::read_record(out);
+    let fields = read.map_or(0, |got| fields_of(got.record));
+    filled(written, filled(read.map(|got| got.length), fields))
 }
 
 fn records_again(n: u64) -> u64 {
@@ -163,8 +161,8 @@ fn put_schedule(requests: u32, out: &mut [u8]) -> usize {
 fn run_again(bytes: &[u8], n: u64) -> u64 {
     let mut out: [u8; 65536] = streams::buffer_of(0);
     repeated(n, |i| {
-        let outcome = schedule::run(bytes, &mut out);
-        filled(outcome.map(|accepted| accepted.bytes)).wrapping_add(u64::from(out[(i % 1404) as usize]))
+        let done = schedule::run(bytes, &mut out).map(|accepted| accepted.bytes);
+        filled(done, u64::from(out[(i % 1404) as usize]))
     })
 }
 
@@ -181,7 +179,7 @@ fn schedules_listed(n: u64) -> u64 {
     put_schedule(468, &mut bytes);
     repeated(n, |i| {
         let listed = listing_text::listing(&bytes, &mut out);
-        filled(listed).wrapping_add(u64::from(out[(i % 4096) as usize]))
+        filled(listed, u64::from(out[(i % 4096) as usize]))
     })
 }
 
@@ -205,8 +203,8 @@ fn put_design(size: u16, out: &mut [u8]) {
 fn read_again(bytes: &[u8], n: u64) -> u64 {
     let mut sheet: [u8; 2368] = streams::buffer_of(0);
     repeated(n, |i| {
-        let read = panels::read(bytes, &mut sheet);
-        filled(read.map(|panel| panel.filled)).wrapping_add(u64::from(sheet[(i % 14) as usize]))
+        let done = panels::read(bytes, &mut sheet).map(|panel| panel.filled);
+        filled(done, u64::from(sheet[(i % 14) as usize]))
     })
 }
 
@@ -220,17 +218,16 @@ fn designs_read(size: u16, n: u64) -> u64 {
 
 // The number of these digits, of at most twelve of them.
 fn number(digits: &[u8]) -> u64 {
-    digits
-        .iter()
-        .fold(0, |value, digit| {
-            if value < 100_000_000_000 {
-                value * 10 + u64::from(digit.wrapping_sub(b'0'))
-            } else {
-                value
-            }
-        })
+    digits.iter().fold(0, |value, digit| {
+        if value < 100_000_000_000 {
+            value * 10 + u64::from(digit.wrapping_sub(b'0'))
+        } else {
+            value
+        }
+    })
 }
 
+// The input says by a number what to do.
 fn work(what: u64, n: u64) -> u64 {
     match what {
         1 => requests(Run::BITONIC, n),

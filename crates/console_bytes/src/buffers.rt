@@ -34,6 +34,6 @@ pub fn filled<F: FnOnce(&mut [u8]) -> Result<usize, Refusal>>(
     let mut buffer = bytes();
     let lent = &mut buffer[0..room];
     let done = fill(lent);
-    let values = [done.unwrap_or(0)];
-    console_answers::put_bytes(text, order::number_in(done), &values, lent)
+    let filled = done.unwrap_or(0);
+    console_answers::put_bytes(text, order::number_in(done), &[filled], lent)
 }

@@ -42,7 +42,13 @@ fn put_item(text: &mut [u8], size: usize, item: Record) -> usize
             wire,
             number,
         } => {
-            let values = [5, size, usize::from(token), usize::from(wire), number as usize];
+            let values = [
+                5,
+                size,
+                usize::from(token),
+                usize::from(wire),
+                number as usize,
+            ];
             console_answers::put_values(text, 0, &values)
         }
     }
@@ -55,8 +61,7 @@ fn put_read(text: &mut [u8], read: Result<Got, Unread>) -> usize
     match read {
         Ok(got) => put_item(text, got.length, got.record),
         Err(unread) => {
-            let values = [unread.present];
-            console_answers::put_values(text, unread.refusal.number(), &values)
+            console_answers::put_values(text, unread.refusal.number(), &[unread.present])
         }
     }
 }

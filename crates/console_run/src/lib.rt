@@ -53,13 +53,15 @@ pub fn put_turn(text: &mut [u8], answer: Result<Turn, Refusal>) -> usize
     ensures { Puts (moved_line (answered answer)) 0 text.old result text.new }
 {
     match answer {
-        Ok(Turn::Passed {
-            level,
-            wire,
-            layer,
-            cell,
-            outlet,
-        }) => {
+        Ok(
+            Turn::Passed {
+                level,
+                wire,
+                layer,
+                cell,
+                outlet,
+            },
+        ) => {
             let values = [
                 usize::from(level),
                 usize::from(wire),
@@ -104,7 +106,8 @@ pub fn put_sound(text: &mut [u8], sound: bool) -> usize
 pub fn open(line: &[u8], text: &mut [u8]) -> Answered<Run>
     ensures { Answers (after_open line.now) result.state (open_line line.now) text.old result.end text.new }
 {
-    held(text, Run::open(words::short(line, 1), words::short(line, 2)))
+    let opened = Run::open(words::short(line, 1), words::short(line, 2));
+    held(text, opened)
 }
 
 // `set W C ENTERED COUNTS TOGGLES PLACES`: any record, sound or not.
@@ -124,7 +127,8 @@ pub fn set(line: &[u8], text: &mut [u8]) -> Answered<Run>
 pub fn enter(line: &[u8], text: &mut [u8], run: Run) -> Answered<Run>
     ensures { Answers (after_enter line.now run) result.state (enter_line line.now run) text.old result.end text.new }
 {
-    held(text, run.enter(words::short(line, 1), words::short(line, 2)))
+    let entered = run.enter(words::short(line, 1), words::short(line, 2));
+    held(text, entered)
 }
 
 // `turn T`
@@ -154,8 +158,8 @@ pub fn filled<F: FnOnce(&mut [u32]) -> Result<usize, Refusal>>(
     let mut buffer = buffer();
     let lent = &mut buffer[0..room];
     let done = fill(lent);
-    let values = [done.unwrap_or(0)];
-    console_answers::put_numbers(text, order::number_in(done), &values, lent)
+    let filled = done.unwrap_or(0);
+    console_answers::put_numbers(text, order::number_in(done), &[filled], lent)
 }
 
 // `gaps ROOM`

@@ -8,4 +8,4 @@ pub returns : goal.returns
 returns g c =
     bytes_filled (FnOnceReturnsAtMut g.F.FnOnce c.args.fill) c.room-room.ensures c.bytes-buffer.ensures
     (record { shown = _; shows = refl; left = _; met = c.fill-done.ensures; leaves = refl })
-    (rw (← c.number_in.ensures, ← c.unwrap_or.ensures) c.put_bytes.ensures)
+    (rw (← c.number_in.ensures, ← c.unwrap_or-filled.ensures) c.put_bytes.ensures)
