@@ -47,6 +47,7 @@ fn byte_at(bytes: &[u8], at: usize) -> u8
 }
 
 // The field of two bytes at a place; a byte past the end counts as 0.
+#[tactic(auto, using(crate::proofs::Fields::spelt_two))]
 pub fn field_of_two(bytes: &[u8], at: usize) -> u16
     ensures { result ≡ field 2 bytes.now at }
 {
@@ -55,6 +56,7 @@ pub fn field_of_two(bytes: &[u8], at: usize) -> u16
 }
 
 // The same of four bytes.
+#[tactic(auto, using(crate::proofs::Fields::spelt_four))]
 pub fn field_of_four(bytes: &[u8], at: usize) -> u32
     ensures { result ≡ field 4 bytes.now at }
 {
@@ -67,7 +69,8 @@ pub fn field_of_four(bytes: &[u8], at: usize) -> u32
     ])
 }
 
-// The length of a record of a kind, 0 where there is no such kind.
+// The length of a record of a kind, 0 where there is no such kind. A kind is its number in a file: an enum of them would want to be
+// told from that number and back, and a length for what is none.
 #[tactic(auto, unfolding(crate::specs::Reading::length_of))]
 fn length_of(kind: u16) -> u16
     ensures { result ≡ length_of kind }
@@ -109,29 +112,30 @@ fn record_in(kind: u16, bytes: &[u8]) -> Record
 }
 
 // May the record in front be read?
+#[tactic(auto, using(std::proofs::lemmas::Bool::Decides::nat_tests), unfolding(crate::specs::Reading::read_no, crate::specs::Reading::known, order::specs::Order::first_of))]
 fn check_record(bytes: &[u8], reports: bool) -> Result<(), Refusal>
     ensures { refused_by result ≡ read_no reports bytes.now }
 {
-    let kind = field_of_two(bytes, 2);
-    let size = length_of(kind);
-    let told = field_of_two(bytes, 0);
-    let long = size as usize;
     if bytes.len() < 4 {
         return Err(Refusal::HeadCut);
     }
-    if !(((1 <= kind) & (kind <= 4)) | (reports & (kind == 5))) {
+    let kind = field_of_two(bytes, 2);
+    let known = matches!(kind, 1..=4) || reports && kind == 5;
+    if !known {
         return Err(Refusal::UnknownKind);
     }
-    if told != size {
+    let size = length_of(kind);
+    if field_of_two(bytes, 0) != size {
         return Err(Refusal::WrongLength);
     }
-    if bytes.len() < long {
+    if bytes.len() < size as usize {
         return Err(Refusal::BodyCut);
     }
     Ok(())
 }
 
 // How many bytes of a refused record are present, with n from its first to the end: n where it is cut, else 0.
+#[tactic(auto, unfolding(crate::specs::Reading::present_of))]
 pub fn present_of(refusal: Refusal, n: usize) -> usize
     ensures { result ≡ present_of (number_of refusal) n }
 {
@@ -141,13 +145,14 @@ pub fn present_of(refusal: Refusal, n: usize) -> usize
     }
 }
 
+#[tactic(auto, using(order::proofs::Numbers::number_some), unfolding(crate::specs::Reading::read_of))]
 fn read_among(bytes: &[u8], reports: bool) -> Result<Got, Unread>
     ensures { read_by result ≡ read_of reports bytes.now }
 {
-    if let Err(refusal) = check_record(bytes, reports) {
-        let present = present_of(refusal, bytes.len());
-        return Err(Unread { refusal, present });
-    }
+    check_record(bytes, reports).map_err(|refusal| Unread {
+        refusal,
+        present: present_of(refusal, bytes.len()),
+    })?;
     let kind = field_of_two(bytes, 2);
     let record = record_in(kind, bytes);
     let length = length_of(kind) as usize;
@@ -168,6 +173,7 @@ pub fn read_in_schedule(bytes: &[u8]) -> Result<Got, Unread>
     read_among(bytes, false)
 }
 
+#[tactic(auto, using(crate::proofs::Writing::placed_part), unfolding(crate::specs::Fields::bytes_in))]
 fn put16(out: &mut [u8], at: usize, v: u16)
     requires { at + 2 ≤ length out.old }
     ensures { out.new ≡ placed out.old at (bytes_in 2 v) }
@@ -175,6 +181,7 @@ fn put16(out: &mut [u8], at: usize, v: u16)
     out[at..at + 2].copy_from_slice(&v.to_le_bytes());
 }
 
+#[tactic(auto, using(crate::proofs::Writing::placed_part, crate::proofs::Fields::bytes_in_four))]
 fn put32(out: &mut [u8], at: usize, v: u32)
     requires { at + 4 ≤ length out.old }
     ensures { out.new ≡ placed out.old at (bytes_in 4 v) }
@@ -203,12 +210,14 @@ fn kind_of(item: Record) -> u16
 }
 
 // The length of a record's bytes.
+#[tactic(auto, unfolding(crate::specs::Writing::size_of))]
 pub fn size_of(item: Record) -> usize
     ensures { result ≡ size_of item }
 {
     length_of(kind_of(item)) as usize
 }
 
+#[tactic(auto, unfolding(crate::specs::Fields::bytes_in))]
 fn put_fields(out: &mut [u8], at: usize, item: Record)
     requires { at + length (fields_of item) ≤ length out.old }
     ensures { out.new ≡ placed out.old at (fields_of item) }
@@ -233,6 +242,7 @@ fn put_fields(out: &mut [u8], at: usize, item: Record)
 }
 
 // Writes a record's bytes at a place that has room for them.
+#[tactic(auto, using(crate::proofs::Writing::size_fields))]
 pub fn put_record(out: &mut [u8], at: usize, item: Record)
     requires { at + size_of item ≤ length out.old }
     ensures { out.new ≡ placed out.old at (bytes_of item) }
@@ -244,6 +254,7 @@ pub fn put_record(out: &mut [u8], at: usize, item: Record)
 }
 
 // Writes a record in front of out, where there is room; the rest of out stays.
+#[tactic(auto, using(crate::proofs::Writing::writes_none, crate::proofs::Writing::writes_all))]
 pub fn write_record(item: Record, out: &mut [u8]) -> Result<usize, Refusal>
     ensures { Writes item out.old result out.new }
 {

@@ -3,14 +3,8 @@ use native.Mathlib.Omega.{arith}
 use mathlib.Core.Path.{refl}
 use Rattle.records.specs.Fields.{bytes_in}
 use Rattle.records.specs.Writing.{size_of, bytes_of}
-use Rattle.records.proofs.Writing.{size_fields, placed_then}
+use Rattle.records.proofs.Writing.{placed_then}
 use Rattle.records.proofs.put_record.Goals as goal
-
-pub put_pair-requires : goal.put_pair-requires
-put_pair-requires c = omega (arith, size_fields c.args.item)
-
-pub put_fields-requires : goal.put_fields-requires
-put_fields-requires c = omega (arith, size_fields c.args.item)
 
 pub returns : goal.returns
 unfolding bytes_of size_of bytes_in
