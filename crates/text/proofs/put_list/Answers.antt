@@ -10,4 +10,4 @@ pub loop-i-preserved : goal.loop-i-preserved
 loop-i-preserved c = number_on c.loop-i.invariant c.loop-i-test.true c.put_comma-behind.ensures c.put_decimal-next.ensures
 
 pub returns : goal.returns
-returns c = numbers_all c.loop-i.invariant c.loop-i-test.false c.put_dash.ensures
+returns c = numbers_all c.loop-i.invariant c.loop-i-test.false c.loop-i.auto.i-end c.put_dash.ensures
