@@ -52,7 +52,7 @@ impl FeedRun {
     {
         let within = feed_sheet::in_limits(usize::from(self.width), usize::from(self.depth));
         let odd = feed_sheet::is_unpaired(self.width, self.depth);
-        let good = board::is_sound(self.board, self.width, self.depth);
+        let good = board::is_sound(&self.board, self.width, self.depth);
         within & !odd & good
     }
 

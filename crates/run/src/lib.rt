@@ -82,7 +82,7 @@ impl Run {
         let allowed = network::width_ok(self.width);
         let known = network::construction_ok(self.construction);
         let depth = network::depth_of(self.width, self.construction);
-        let good = board::is_sound(self.board, self.width, depth);
+        let good = board::is_sound(&self.board, self.width, depth);
         allowed & known & good
     }
 
