@@ -6,7 +6,7 @@ use native.Mathlib.Omega.{arith}
 use Rattle.sheets.specs.Sheets.{ViewIs}
 use Rattle.sheets.proofs.Sheets.{view_empty}
 use Rattle.facts.specs.Answers.{OneAnswer}
-use Rattle.facts.proofs.Told.{check_told, filled_told, entered_told, turned_told, read_told, panel_told, top_told}
+use Rattle.facts.proofs.Told.{check_told, filled_told, entered_told, turned_told, polled_told, read_told, panel_told, top_told}
 
 same : {A : Type 0} {a r s : A} → r ≡ a → s ≡ a → r ≡ s
 same e f = e ∙ sym f
@@ -58,10 +58,10 @@ one_answer =
       dial_advance = λ κs a r s l m e f. (same e f, refl);
       dial_poll = λ κs a r s l m e f. (same e f, refl);
       highest = λ κs a r s l m e f. (top_told r s (same e f), refl);
-      small_opening = λ κs a r s l m e f. (same e f, refl);
+      small_opening = λ κs a r s l m e f. (entered_told (ap (λ x. x.refusal) (same e f)) (ap (λ x. x.cabinet) (same e f)), refl);
       small_enter = λ κs a r s l m e f. (entered_told (ap (λ x. x.refusal) (same e f)) (ap (λ x. x.cabinet) (same e f)), refl);
       small_turn = λ κs a r s l m e f. (turned_told (ap (λ x. x.answer) (same e f)) (ap (λ x. x.cabinet) (same e f)), refl);
-      small_poll = λ κs a r s l m e f. (same e f, refl);
+      small_poll = λ κs a r s l m e f. (polled_told (ap (λ x. x.refusal) (same e f)) (ap (λ x. x.yielded) (same e f)) (ap (λ x. x.cabinet) (same e f)), refl);
       listing = λ κs a r s l m e f. (same e.answer f.answer, λ i. (tt, (same e.buffer f.buffer i, tt)));
       trace = λ κs a r s l m e f. (same e.answer f.answer, λ i. (tt, (same e.buffer f.buffer i, tt)));
       panel_text = λ κs a r s l m e f. (same e.answer f.answer, λ i. (tt, (same e.buffer f.buffer i, tt)));

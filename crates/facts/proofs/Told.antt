@@ -1,5 +1,5 @@
 -- An answer is what it tells in the document's numbers: of each way to tell one, two answers that tell the same are equal. In order: a
--- check; a call that fills a buffer; a call by value; a turn; reading a record; reading a design; the highest number. Assumes nothing.
+-- check; a call that fills a buffer; a call by value, a turn, a poll; reading a record, a design; the highest number. Assumes nothing.
 use Prim.Native.Nat.{ℕ}
 use mathlib.Core.Path.{◌≡◌, refl, sym, ap}
 use Rattle.std.specs.Prelude.{Result, Ok, Err, Option, Some, None, ⊤}
@@ -17,6 +17,7 @@ use Rattle.designs.specs.declared.Fault.{Fault}
 use Rattle.panels.specs.declared.Panel.{Panel}
 use Rattle.panels.specs.Answers.{answer_by}
 use Rattle.dials.specs.Highest.{top_by}
+use Rattle.small.specs.Small.{yielded_by}
 
 pub check_told : {r s : Result ⊤ Refusal} → refused_by r ≡ refused_by s → r ≡ s
 check_told {r} {s} h = number_told r s (λ a b. refl) h
@@ -48,6 +49,16 @@ answer_told (Err e) (Err f) h = let same : e ≡ f = number_tells e f cc in cc
 
 pub turned_told : {S : Type 0} {a b : After S Turn} → answered a.answer ≡ answered b.answer → a.state ≡ b.state → a ≡ b
 turned_told {S} {a} {b} e f = after_told (answer_told a.answer b.answer e) f
+
+yield_told : (r s : Result ℕ Refusal) → refused_by r ≡ refused_by s → yielded_by r ≡ yielded_by s → r ≡ s
+yield_told (Ok m) (Ok n) h y = rw y
+yield_told (Ok m) (Err f) h y = absurd (number_some f (sym h))
+yield_told (Err e) (Ok n) h y = absurd (number_some e h)
+yield_told (Err e) (Err f) h y = rw (number_tells e f h)
+
+pub polled_told : {S : Type 0} {a b : After S ℕ} → refused_by a.answer ≡ refused_by b.answer → yielded_by a.answer ≡ yielded_by b.answer
+    → a.state ≡ b.state → a ≡ b
+polled_told {S} {a} {b} e y f = after_told (yield_told a.answer b.answer e y) f
 
 -- ---- reading
 pub read_told : (r s : Result Got Unread) → read_by r ≡ read_by s → r ≡ s
