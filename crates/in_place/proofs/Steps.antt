@@ -97,10 +97,9 @@ module _ (x : Run) (s : Steady x) (L v : ℕ) (l : L < depth_in x) (m : v < x.wi
   fed w = rw (w.rows L l) (row_array_at x.width x.construction L l v m)
 
 -- ---- entering: token t stands at p, and nothing refuses it on wire v
-module _ (x : Run) (s : Steady x) (t v : ℕ) (p : Place) (there : p ≡ get_or x.board.places t free_place)
+module _ (x : Run) (s : Steady x) (t v : ℕ) (p : Place) (there : p ≡ place_at x.board t)
     (e : 0 ≡ first_of ((ltb 255 t ⟶ 4) ∷ (leb x.width v ⟶ 5) ∷ (p.inside ⟶ 6) ∷ (eqb x.board.entered 1000000 ⟶ 7) ∷ [])) where
   pub can_enter : CanEnter true x.width x.board t v
-  unfolding place_at
   can_enter = refusals.can_enter true x.width x.board t v (enter_no_at x.width x.board t v p there ∙ sym e)
 
   pub steady_entered : Steady (with_board x (entering x.board t v))
@@ -115,15 +114,13 @@ module _ (x : Run) (s : Steady x) (t v : ℕ) (p : Place) (there : p ≡ get_or 
       omega (arith, was, inside_set x s (entering x.board t v) t (at 0 v) can_enter.token refl)
 
 -- ---- turns: token t stands at p, and nothing refuses it
-module _ (x : Run) (s : Steady x) (t : ℕ) (p : Place) (there : p ≡ get_or x.board.places t free_place)
+module _ (x : Run) (s : Steady x) (t : ℕ) (p : Place) (there : p ≡ place_at x.board t)
     (e : 0 ≡ first_of ((ltb 255 t ⟶ 4) ∷ (not p.inside ⟶ 8) ∷ [])) where
   pub can_turn : CanTurn true x.board t
-  unfolding place_at
   can_turn = refusals.can_turn true x.board t (turn_no_at x.board t p there ∙ sym e)
 
   -- it is at a wire of the network
   inside : Inside x.width (depth_in x) p
-  unfolding place_at
   inside = rw there (inside_at x.width (depth_in x) x.board t s.places s.board can_turn.token can_turn.inside)
 
   was_inside : inside_one (place_at x.board t) ≡ 1
@@ -148,7 +145,7 @@ module _ (x : Run) (s : Steady x) (t : ℕ) (p : Place) (there : p ≡ get_or x.
   module _ (l : p.level < depth_in x) where
     module _ (feeds : ℕ) (f : feeds ≡ place_of x.width x.construction p.level p.wire) where
       pub steady_passed : Steady (with_board x (passing x.width x.board t feeds).board)
-      unfolding place_at depth_in
+      unfolding depth_in
       steady_passed =
           steady_with x s _ (keeps.shaped_passing x.board (shaped x s) x.width t feeds)
           (keeps.passing_sound true x.width (depth_in x) x.board t feeds (shaped x s) can_turn

@@ -43,6 +43,17 @@ fn wire_up(table: &mut [[u8; network::ROW]; LAYERS], width: u16, construction: u
     }
 }
 
+// The place of a token; a number that is no token reads as a free one.
+#[tactic(auto, using(board::proofs::Lists::read_out), unfolding(board::specs::Board::place_at))]
+fn place_at(board: &Board, token: u16) -> Place
+    ensures { result ≡ place_at board.now token }
+{
+    match board.places.get(usize::from(token)) {
+        Some(place) => *place,
+        None => board::free_place(),
+    }
+}
+
 // A token is put on a wire of level 0.
 #[tactic(auto, unfolding(moves::specs::Enter::entering))]
 fn put_in(board: &mut Board, token: u16, wire: u16)
@@ -63,7 +74,7 @@ fn pass(board: &mut Board, width: u16, token: u16, feeds: u8) -> Turn
     requires { (token < 256) × ((place_at board.old token).level < 65535) }
     ensures { moved (record { turn = result; board = board.new }) ≡ passing width board.old token feeds }
 {
-    let layer = moves::place_at(&board.places, token).level;
+    let layer = place_at(board, token).level;
     let cell = feeds / 2;
     let toggle = moves::cell_at(width, layer, cell);
     let down = moves::toggle_at(&board.toggles, toggle);
@@ -133,7 +144,7 @@ impl WiredRun {
     pub fn enter(&mut self, token: u16, wire: u16) -> Result<(), Refusal>
         ensures { sound self.old.run ≡ true → entered (after self.new.run result) ≡ enter_of self.old.run token wire }
     {
-        let from = moves::place_at(&self.run.board.places, token);
+        let from = place_at(&self.run.board, token);
         moves::check_enter(self.run.board.entered, self.run.width, from, token, wire)?;
         put_in(&mut self.run.board, token, wire);
         self.within += 1;
@@ -153,7 +164,7 @@ impl WiredRun {
     pub fn turn(&mut self, token: u16) -> Result<Turn, Refusal>
         ensures { sound self.old.run ≡ true → turned (after self.new.run result) ≡ turn_of self.old.run token }
     {
-        let place = moves::place_at(&self.run.board.places, token);
+        let place = place_at(&self.run.board, token);
         moves::check_turn(token, place)?;
         let width = self.run.width;
         if place.level < self.depth {
