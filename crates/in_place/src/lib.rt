@@ -82,11 +82,12 @@ fn pass(board: &mut Board, width: u16, token: u16, feeds: u8) -> Turn
     let level = layer + 1;
     let wire = moves::wire_of(cell, outlet);
     moves::put_toggle(&mut board.toggles, toggle, !down);
-    board.places[usize::from(token)] = Place {
+    let there = Place {
         inside: true,
         level,
         wire,
     };
+    board.places[usize::from(token)] = there;
     Turn::Passed {
         level,
         wire,

@@ -34,8 +34,9 @@ overflow_sub-self c =
 pub deal-requires : goal.deal-requires
 deal-requires c =
     let x = c.args.self.now in
-    let can = can_turn x.run x.steady _ _ c.place_at-place.ensures c.in_ok-check_turn.ensures in
-    (can.token, (x.steady.width, count_few x.run x.steady _ _ c.place_at-place.ensures c.in_ok-check_turn.ensures _))
+    let there = c.place_at-place.ensures in
+    let ok = c.in_ok-check_turn.ensures in
+    ((can_turn x.run x.steady _ _ there ok).token, (x.steady.width, count_few x.run x.steady _ _ there ok _))
 
 pub invariant_of-self-2 : goal.invariant_of-self-2
 unfolding depth_in
