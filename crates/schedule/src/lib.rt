@@ -176,7 +176,7 @@ fn check_close(wired: &WiredRun, entered: u32) -> Result<(), Refusal>
 }
 
 impl Stage {
-    ghost use Rattle.schedule.specs.Serving.{course_in, Underway, Servable, Serves};
+    ghost use Rattle.schedule.specs.Serving.{course_in, Servable, Serves};
 
     #[tactic(auto, unfolding(outcome::specs::Course::at_start))]
     fn at_start() -> Stage
@@ -202,7 +202,7 @@ impl Stage {
 
     #[tactic(auto, using(order::proofs::Numbers::number_some), unfolding(outcome::specs::Step::step_of, outcome::specs::Step::served_of, outcome::specs::Step::place_no))]
     fn open(&mut self, width: u16, construction: u16) -> Result<(), Refusal>
-        ensures { Serves (step_of (course_in self.old) (Record.Open width construction)) self.old.reports result (course_in self.new) self.new.reports }
+        ensures { Serves self.old (Record.Open width construction) result self.new }
     {
         self.check_phase(Phase::Before)?;
         self.wired.open(width, construction)?;
@@ -212,8 +212,8 @@ impl Stage {
 
     #[tactic(auto, using(order::proofs::Numbers::number_some, outcome::proofs::Ready::its_phase), unfolding(outcome::specs::Step::step_of, outcome::specs::Step::served_of, outcome::specs::Step::place_no))]
     fn enter(&mut self, token: u16, wire: u16) -> Result<(), Refusal>
-        requires { Underway (course_in self.old) }
-        ensures { Serves (step_of (course_in self.old) (Record.Enter token wire)) self.old.reports result (course_in self.new) self.new.reports }
+        requires { Servable self.old (Record.Enter token wire) }
+        ensures { Serves self.old (Record.Enter token wire) result self.new }
     {
         self.check_phase(Phase::Running)?;
         self.wired.enter(token, wire)?;
@@ -222,8 +222,8 @@ impl Stage {
 
     #[tactic(auto, using(order::proofs::Numbers::number_some, outcome::proofs::Ready::its_phase), unfolding(outcome::specs::Step::step_of, outcome::specs::Step::served_of, outcome::specs::Step::place_no))]
     fn turn(&mut self, token: u16) -> Result<(), Refusal>
-        requires { Servable (course_in self.old) (Record.Turn token) self.old.reports }
-        ensures { Serves (step_of (course_in self.old) (Record.Turn token)) self.old.reports result (course_in self.new) self.new.reports }
+        requires { Servable self.old (Record.Turn token) }
+        ensures { Serves self.old (Record.Turn token) result self.new }
     {
         self.check_phase(Phase::Running)?;
         let turn = self.wired.turn(token)?;
@@ -233,7 +233,7 @@ impl Stage {
 
     #[tactic(auto, using(order::proofs::Numbers::number_some), unfolding(outcome::specs::Step::step_of, outcome::specs::Step::served_of, outcome::specs::Step::place_no))]
     fn close(&mut self, entered: u32) -> Result<(), Refusal>
-        ensures { Serves (step_of (course_in self.old) (Record.Close entered)) self.old.reports result (course_in self.new) self.new.reports }
+        ensures { Serves self.old (Record.Close entered) result self.new }
     {
         self.check_phase(Phase::Running)?;
         check_close(&self.wired, entered)?;
@@ -243,8 +243,8 @@ impl Stage {
 
     #[tactic(auto, using(order::proofs::Numbers::number_some), unfolding(outcome::specs::Step::step_of, outcome::specs::Step::served_of, outcome::specs::Step::place_no))]
     fn serve(&mut self, item: Record) -> Result<(), Refusal>
-        requires { Servable (course_in self.old) item self.old.reports }
-        ensures { Serves (step_of (course_in self.old) item) self.old.reports result (course_in self.new) self.new.reports }
+        requires { Servable self.old item }
+        ensures { Serves self.old item result self.new }
     {
         match item {
             Record::Open {
@@ -260,7 +260,7 @@ impl Stage {
 
     // Carries out the records up to the close.
     fn pass(&mut self, bytes: &[u8]) -> Result<Accepted, Stopped>
-        requires { Passable bytes.now (course_in self.old) self.old.reports }
+        requires { Passable bytes.now self.old }
         ensures { PassIs bytes.now result self.new.reports }
     {
         let mut at: usize = 0;

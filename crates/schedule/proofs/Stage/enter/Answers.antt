@@ -12,10 +12,9 @@ pub returns : goal.returns
 unfolding step_of served_of place_no phase_no first_of
 returns c =
     let running = its_phase 1 _ (sym c.in_ok-check_phase.ensures) in
-    let e = c.in_ok-enter.ensures (c.requires running) in
-    rw running
-    (record {
-      number = ap (λ (y : Entered). y.refusal) e;
-      course = ap (λ (y : Entered). course 1 y.run) e;
-      reports = sym (append-nil _);
-    })
+    let e = c.in_ok-enter.ensures (c.requires.underway running) in
+    record {
+      number = rw running (ap (λ (y : Entered). y.refusal) e);
+      course = rw running (ap (λ (y : Entered). course 1 y.run) e);
+      reports = rw running (sym (append-nil _));
+    }

@@ -16,15 +16,15 @@ returns-in_err-turn c =
     let p = err_from_is_err_and c.from_residual-in_err-turn.result c.from_residual-in_err-turn.ensures.1 in
     let running = its_phase 1 _ (sym c.in_ok-check_phase.ensures) in
     let e = c.in_err-turn.ensures (c.requires.underway running) in
-    rw (p.1, p.2, running) (record { number = ap (λ (y : Turned). (values_of y.answer).refusal) e; course = tt; reports = tt })
+    rw (p.1, p.2) (record { number = rw running (ap (λ (y : Turned). (values_of y.answer).refusal) e); course = tt; reports = tt })
 
 pub returns : goal.returns
-unfolding step_of served_of place_no phase_no first_of values_of
+unfolding step_of served_of place_no phase_no first_of
 returns c =
     let running = its_phase 1 _ (sym c.in_ok-check_phase.ensures) in
     let e = c.in_ok-turn.ensures (c.requires.underway running) in
-    rw running (record {
-      number = turned_zero _ ∙ ap (λ (y : Turned). (values_of y.answer).refusal) e;
-      course = ap (λ (y : Turned). course 1 y.run) e;
-      reports = rw (c.note.ensures, ← e);
-    })
+    record {
+      number = rw running (turned_zero _ ∙ ap (λ (y : Turned). (values_of y.answer).refusal) e);
+      course = rw running (ap (λ (y : Turned). course 1 y.run) e);
+      reports = rw (running, c.note.ensures, ← e);
+    }
