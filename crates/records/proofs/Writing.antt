@@ -26,7 +26,7 @@ module _ (out : List ℕ) (at : ℕ) (a : List ℕ) (within : at ≤ length out)
   length_front = rw (length-append, length-take-le)
 
   -- more bytes behind those placed
-  pub placed_placed : (b : List ℕ) → placed (placed out at a) (at + length a) b ≡ placed out at (a ++ b)
+  placed_placed : (b : List ℕ) → placed (placed out at a) (at + length a) b ≡ placed out at (a ++ b)
   unfolding placed
   placed_placed b =
       let front : List ℕ = take at out ++ a in
@@ -43,9 +43,10 @@ module _ (out : List ℕ) (at : ℕ) (a : List ℕ) (within : at ≤ length out)
         append_assoc a b,
       )
 
-  pub placed_then : (b between after : List ℕ) (next : ℕ) → between ≡ placed out at a → next ≡ at + length a
-      → after ≡ placed between next b → after ≡ placed out at (a ++ b)
-  placed_then b between after next first e last = last ∙ rw (first, e) (placed_placed b)
+-- the same at the place that the first bytes end at, however it is written
+pub placed_more : (out : List ℕ) (at : ℕ) (a : List ℕ) (next : ℕ) (b : List ℕ) → next ≡ at + length a → at ≤ length out
+    → placed (placed out at a) next b ≡ placed out at (a ++ b)
+placed_more out at a next b e within = rw e (placed_placed out at a within b)
 
 -- bytes copied into the part from a place on
 pub placed_part : (out part bytes : List ℕ) (at k : ℕ) → k ≡ length bytes → part ≡ bytes → put_mid at k out part ≡ placed out at bytes

@@ -189,6 +189,7 @@ fn put32(out: &mut [u8], at: usize, v: u32)
     out[at..at + 4].copy_from_slice(&v.to_le_bytes());
 }
 
+#[tactic(auto, using(crate::proofs::Writing::placed_more), unfolding(crate::specs::Fields::bytes_in))]
 fn put_pair(out: &mut [u8], at: usize, a: u16, b: u16)
     requires { at + 4 ≤ length out.old }
     ensures { out.new ≡ placed out.old at (bytes_in 2 a ++ bytes_in 2 b) }
@@ -217,7 +218,7 @@ pub fn size_of(item: Record) -> usize
     length_of(kind_of(item)) as usize
 }
 
-#[tactic(auto, unfolding(crate::specs::Fields::bytes_in))]
+#[tactic(auto, using(crate::proofs::Writing::placed_more), unfolding(crate::specs::Fields::bytes_in))]
 fn put_fields(out: &mut [u8], at: usize, item: Record)
     requires { at + length (fields_of item) ≤ length out.old }
     ensures { out.new ≡ placed out.old at (fields_of item) }
@@ -242,7 +243,7 @@ fn put_fields(out: &mut [u8], at: usize, item: Record)
 }
 
 // Writes a record's bytes at a place that has room for them.
-#[tactic(auto, using(crate::proofs::Writing::size_fields))]
+#[tactic(auto, using(crate::proofs::Writing::size_fields, crate::proofs::Writing::placed_more), unfolding(crate::specs::Writing::bytes_of, crate::specs::Writing::size_of, crate::specs::Fields::bytes_in))]
 pub fn put_record(out: &mut [u8], at: usize, item: Record)
     requires { at + size_of item ≤ length out.old }
     ensures { out.new ≡ placed out.old at (bytes_of item) }
