@@ -11,7 +11,7 @@ use Rattle.run.specs.Run.{depth_in}
 pub record Wired (x : Run) (table : List (List ℕ)) : Type 0 where
   pub rows : (L : ℕ) → L < depth_in x → get_or table L [] ≡ row_array x.width x.construction L
 
--- the arrays are as long as their types say, and the board is sound; before an opening, when the width is none that is allowed, it is too
+-- the arrays are as long as their types say, and the board is sound for the width; before an opening the width is 0
 pub record Steady (x : Run) : Type 0 where
   pub counts : length x.board.counts ≡ 64
   pub toggles : length x.board.toggles ≡ 1152

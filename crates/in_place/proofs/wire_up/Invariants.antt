@@ -1,3 +1,4 @@
+-- `in_place::wire_up` meets its contract. The invariant: the rows of the layers passed are in the table. Assumes nothing.
 use Rattle.std.proofs.Common.{◌≡◌, ◌<◌, ℕ, [], length, get_or}
 use Rattle.network.specs.Rows.{row_array}
 use Rattle.in_place.proofs.wire_up.Given as goal
