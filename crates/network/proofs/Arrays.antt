@@ -1,14 +1,12 @@
--- Laws of `tabulate` and `array_of`: a row as a list and in an array, and the array that a loop fills from the front, one wire
--- a turn. Assumes nothing.
-use mathlib.Core.Path.{◌≡◌, refl, sym, ap, ◌∙◌, subst}
+-- Laws of `tabulate` and `array_of`: a row as a list and in an array. Assumes nothing.
+use mathlib.Core.Path.{◌≡◌, refl, sym, ap, ◌∙◌}
 use mathlib.Core.List.{List, ◌++◌}
 use Prim.Native.Nat.{ℕ, zero, suc, ◌+◌, ◌-◌, ◌<◌, ◌≤◌}
 use native.Mathlib.Nat.{le_of_suc-le-suc, not-suc-le-zero}
 use native.Mathlib.Omega.{arith}
 use native.Mathlib.Decide.{dec_lt}
-use lib.ListN.{length, get_or, set, take, replicate, length-append, length-replicate, get_or-append}
-use lib.Seq.{get_or-set_same, get_or-set_other, get_or-append-add, ext_get_or, take_at}
-use borrow.Author.Count.{below_more}
+use lib.ListN.{length, get_or, take, replicate, length-append, length-replicate, get_or-append}
+use lib.Seq.{get_or-append-add, ext_get_or, take_at}
 use Rattle.network.specs.Rows.{tabulate, array_of}
 
 pub length_tabulate : (f : ℕ → ℕ) (n : ℕ) → length (tabulate f n) ≡ n
@@ -70,17 +68,3 @@ module _ (f : ℕ → ℕ) (n : ℕ) where
   pub take_array : take n (array_of f n) ≡ tabulate f n
   unfolding array_of
   take_array = take_at (tabulate f n) (replicate (64 - n) 0) n (length_tabulate f n)
-
--- ---- filled from the front
-pub row_none : (n : ℕ) (f : ℕ → ℕ) → RowIs (replicate n 0) 0 f
-row_none n f = record { at = λ v l. absurd (omega arith); rest = λ v l. get_or_zeros n v }
-
-pub row_more : (a : List ℕ) (i x : ℕ) (f : ℕ → ℕ) → i < length a → x ≡ f i → RowIs a i f → RowIs (set a i x) (i + 1) f
-row_more a i x f l e r = record {
-  at = below_more (λ v. get_or (set a i x) v 0 ≡ f v) i (λ v h. get_or-set_other a i v x 0 (λ q. omega arith) ∙ r.at v h) (get_or-set_same a i x 0 l ∙ e);
-  rest = λ v h. get_or-set_other a i v x 0 (λ q. omega arith) ∙ r.rest v (omega arith);
-}
-
--- filled to its end, the array is the row's
-pub row_at_lem : {a : List ℕ} {i : ℕ} (f : ℕ → ℕ) (n : ℕ) → RowIs a i f → i ≡ n → n ≤ 64 → length a ≡ 64 → a ≡ array_of f n
-row_at_lem {a} {i} f n r e l m = row→array f n a l m (subst (λ (k : ℕ). RowIs a k f) e r)

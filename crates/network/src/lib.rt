@@ -189,7 +189,7 @@ fn fed_place(feed: Feed, h: u16, inner: &[u8; ROW], v: u16) -> u8
 }
 
 // The bytes place(0), place(1), .., n of them, in front of an array of zeros.
-pub fn filled<F: Fn(usize) -> u8>(n: usize, place: F) -> [u8; ROW]
+fn filled<F: Fn(usize) -> u8>(n: usize, place: F) -> [u8; ROW]
     requires room { n ≤ 64 }
     requires ready { (v : ℕ) → v < n → F.pre place v }
     ensures front { (v : ℕ) → v < n → F.post place v (get_or result v 0) }
