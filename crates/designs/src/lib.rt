@@ -103,6 +103,7 @@ pub fn check_head(bytes: &[u8], left: usize, outermost: bool) -> Result<(), Refu
 }
 
 // Is a cross refused?
+#[tactic(auto, unfolding(crate::specs::Leaves::cross_no))]
 pub fn check_cross(places: &[u8]) -> Result<(), Refusal>
     ensures { refused_by result ≡ cross_no places.now }
 {
@@ -113,6 +114,7 @@ pub fn check_cross(places: &[u8]) -> Result<(), Refusal>
 }
 
 // Are members of so much size together refused?
+#[tactic(auto, unfolding(crate::specs::Designs::size_no))]
 pub fn check_size(equal: bool, width: usize, depth: usize) -> Result<(), Refusal>
     ensures { refused_by result ≡ size_no equal width depth }
 {

@@ -2,14 +2,14 @@
 // Every public call answers every argument; a refusal changes no lent byte.
 #![tactic(auto)]
 
-ghost use Rattle.std.specs.Prelude.{◌≡◌, ◌≢◌, false, true, None, IfOk, ◌++◌, ◌+◌, ◌*◌, ◌<◌, ◌≤◌, ◌^◌, length, drop};
+ghost use Rattle.std.specs.Prelude.{◌≡◌, ◌≢◌, true, None, IfOk, ◌++◌, ◌+◌, ◌*◌, ◌<◌, ◌≤◌, ◌^◌, length, drop};
 ghost use Rattle.network.specs.Rows.{rows};
 ghost use Rattle.designs.specs.Members.{series, beside};
 ghost use Rattle.designs.specs.Heads.{JudgedAt};
-ghost use Rattle.designs.specs.Designs.{members_in, size_no, joined_at, record_at, design_of};
+ghost use Rattle.designs.specs.Designs.{size_no, record_at, design_of};
 ghost use Rattle.leaves.specs.Grid.{byte_at};
 ghost use Rattle.leaves.specs.Told.{judged_by, told_at, ReadInto};
-ghost use Rattle.panels.specs.Sums.{more, ExitsIn};
+ghost use Rattle.panels.specs.Sums.{joined_in, more, ExitsIn};
 ghost use Rattle.panels.specs.Answers.{answer_by, room_no, DesignRead};
 
 use designs::{Fault, Kind, Stretch, check_size, judged};
@@ -28,10 +28,10 @@ pub struct Panel {
 // The members read so far: what all must have equal, as the first has it; have they; and the sum of what adds up. Members of a
 // series must have equal width and add their depth, those of a beside equal depth and add their width.
 #[derive(Clone, Copy)]
-pub struct Sum {
-    pub first: Option<usize>,
-    pub equal: bool,
-    pub total: usize,
+struct Sum {
+    first: Option<usize>,
+    equal: bool,
+    total: usize,
 }
 
 impl Sum {
@@ -46,6 +46,7 @@ impl Sum {
     }
 
     // One member more.
+    #[tactic(auto, unfolding(crate::specs::Sums::more))]
     fn more(self, own: usize, added: usize) -> Sum
         requires { self.total + added < 2 ^ 64 }
         ensures { result ≡ more self own added }
@@ -75,7 +76,7 @@ fn sized(at: usize, equal: bool, size: Size) -> Result<Size, Fault>
     Ok(size)
 }
 
-// The record in front, and its members in it.
+// The record in front. The readers of a series and of a beside call each other through it, on inner bytes, whose length falls.
 #[cycle(readers)]
 fn record_reader(
     front: Stretch,
@@ -95,10 +96,11 @@ fn record_reader(
 }
 
 // The members in the bytes of a series, one after another. Each is read into the rows from the exit row of those before it on.
+// A series and a beside have a reader each, as document 01 wants it.
 #[cycle(readers)]
 fn series_reader(inner: Stretch, grid: &mut Grid, corner: Corner) -> Result<Size, Fault>
     requires { (inner.at + 4 + length inner.bytes.now ≤ 65535) × (corner.row ≤ 64 * inner.at) × (corner.col ≤ 64 * inner.at) }
-    ensures { let s = inner.entry.bytes.now in ReadInto (joined_at series inner.entry.at (members_in (record_at inner.entry.left false) (length s) (inner.entry.at + 4) s)) corner.row corner.col grid.old grid.new (judged_by result) }
+    ensures { ReadInto (joined_in series inner.entry.left inner.entry.at inner.entry.bytes.now) corner.row corner.col grid.old grid.new (judged_by result) }
 {
     let mut sum = Sum::none();
     let mut rest = Stretch {
@@ -127,7 +129,7 @@ fn series_reader(inner: Stretch, grid: &mut Grid, corner: Corner) -> Result<Size
 #[cycle(readers)]
 fn beside_reader(inner: Stretch, grid: &mut Grid, corner: Corner) -> Result<Size, Fault>
     requires { (inner.at + 4 + length inner.bytes.now ≤ 65535) × (corner.row ≤ 64 * inner.at) × (corner.col ≤ 64 * inner.at) }
-    ensures { let s = inner.entry.bytes.now in ReadInto (joined_at beside inner.entry.at (members_in (record_at inner.entry.left false) (length s) (inner.entry.at + 4) s)) corner.row corner.col grid.old grid.new (judged_by result) }
+    ensures { ReadInto (joined_in beside inner.entry.left inner.entry.at inner.entry.bytes.now) corner.row corner.col grid.old grid.new (judged_by result) }
 {
     let mut sum = Sum::none();
     let mut rest = Stretch {

@@ -1,5 +1,4 @@
 -- `leaves::named` meets its contract. Assumes nothing.
-use Rattle.std.proofs.Common.{sym, ◌∙◌}
 use Rattle.std.proofs.lemmas.Result.{err_from_is_err_and}
 use Rattle.designs.specs.Panels.{named}
 use Rattle.leaves.proofs.Filling.{kept_same}
@@ -10,9 +9,6 @@ pub returns-in_err-judged : goal.returns-in_err-judged
 returns-in_err-judged c =
     let p = err_from_is_err_and c.from_residual.result c.from_residual.ensures.1 in
     rw (← c.field_of_two-width.ensures, ← c.field_of_two-construction.ensures, p.1, p.2) (judged_refused _ (named _ _) c.check_open.ensures _ c.in_err-judged.ensures (kept_same _ _ _))
-
-pub put_network-requires : goal.put_network-requires
-put_network-requires c = (c.requires, sym c.check_open.ensures ∙ c.in_ok-judged.ensures)
 
 pub returns : goal.returns
 returns c =

@@ -22,9 +22,6 @@ put_places-requires c = (row (goal.at.put_places-requires c).After-row-places).b
 pub loop-layer-preserved : goal.loop-layer-preserved
 loop-layer-preserved c = (c.loop-layer.invariant.0, laying_more c.loop-layer.invariant.1 c.put_places.ensures (row (goal.at.loop-layer-preserved c).After-row-places))
 
-pub put_places-requires-2 : goal.put_places-requires-2
-put_places-requires-2 c = (exits (goal.at.put_places-requires-2 c).After-in_order).below
-
 pub returns : goal.returns
 returns c =
     let last : c.loop-layer.layer ≡ depth_of c.args.width c.args.construction = omega (arith, c.depth_of-depth.ensures) in
