@@ -6,7 +6,7 @@ use native.Mathlib.Omega.{arith}
 use Rattle.sheets.specs.Sheets.{ViewIs}
 use Rattle.sheets.proofs.Sheets.{view_empty}
 use Rattle.facts.specs.Answers.{OneAnswer}
-use Rattle.facts.proofs.Told.{check_told, filled_told, entered_told, turned_told, polled_told, read_told, panel_told, top_told}
+use Rattle.facts.proofs.Told.{check_told, filled_told, entered_told, turned_told, polled_told, read_told, panel_told, outcome_told, listed_told, top_told}
 
 same : {A : Type 0} {a r s : A} → r ≡ a → s ≡ a → r ≡ s
 same e f = e ∙ sym f
@@ -42,7 +42,7 @@ one_answer =
       field_of_four = λ κs a r s l m e f. (same e f, refl);
       size_of = λ κs a r s l m e f. (same e f, refl);
       write_record = λ κs a r s l m e f. (filled_told r s (same e.answer f.answer), λ i. (tt, (same e.buffer f.buffer i, tt)));
-      run = λ κs a r s l m e f. (same e.outcome f.outcome, λ i. (tt, (same e.output f.output i, tt)));
+      run = λ κs a r s l m e f. (outcome_told r s (same e.outcome f.outcome), λ i. (tt, (same e.output f.output i, tt)));
       in_limits = λ κs a r s l m e f. (same e f, refl);
       is_unpaired = λ κs a r s l m e f. (same e f, refl);
       is_permutation = λ κs a r s l m e f. (same e f, refl);
@@ -62,7 +62,7 @@ one_answer =
       small_enter = λ κs a r s l m e f. (entered_told (ap (λ x. x.refusal) (same e f)) (ap (λ x. x.cabinet) (same e f)), refl);
       small_turn = λ κs a r s l m e f. (turned_told (ap (λ x. x.answer) (same e f)) (ap (λ x. x.cabinet) (same e f)), refl);
       small_poll = λ κs a r s l m e f. (polled_told (ap (λ x. x.refusal) (same e f)) (ap (λ x. x.yielded) (same e f)) (ap (λ x. x.cabinet) (same e f)), refl);
-      listing = λ κs a r s l m e f. (same e.answer f.answer, λ i. (tt, (same e.buffer f.buffer i, tt)));
-      trace = λ κs a r s l m e f. (same e.answer f.answer, λ i. (tt, (same e.buffer f.buffer i, tt)));
-      panel_text = λ κs a r s l m e f. (same e.answer f.answer, λ i. (tt, (same e.buffer f.buffer i, tt)));
+      listing = λ κs a r s l m e f. (listed_told r s (same e.answer f.answer), λ i. (tt, (same e.buffer f.buffer i, tt)));
+      trace = λ κs a r s l m e f. (listed_told r s (same e.answer f.answer), λ i. (tt, (same e.buffer f.buffer i, tt)));
+      panel_text = λ κs a r s l m e f. (listed_told r s (same e.answer f.answer), λ i. (tt, (same e.buffer f.buffer i, tt)));
     }

@@ -1,7 +1,9 @@
 -- An answer is what it tells in the document's numbers: of each way to tell one, two answers that tell the same are equal. In order: a
--- check; a call that fills a buffer; a call by value, a turn, a poll; reading a record, a design; the highest number. Assumes nothing.
+-- check; a call that fills a buffer; a call by value, a turn, a poll; reading a record, a design; running a schedule; a text; the highest
+-- number. Assumes nothing.
 use Prim.Native.Nat.{ℕ}
 use mathlib.Core.Path.{◌≡◌, refl, sym, ap}
+use native.Mathlib.Omega.{arith}
 use Rattle.std.specs.Prelude.{Result, Ok, Err, Option, Some, None, ⊤}
 use Rattle.order.specs.declared.Refusal.{Refusal}
 use Rattle.order.specs.declared.After.{After}
@@ -16,6 +18,11 @@ use Rattle.records.specs.Reading.{read_by}
 use Rattle.designs.specs.declared.Fault.{Fault}
 use Rattle.panels.specs.declared.Panel.{Panel}
 use Rattle.panels.specs.Answers.{answer_by}
+use Rattle.outcome.specs.declared.Accepted.{Accepted}
+use Rattle.outcome.specs.declared.Stopped.{Stopped}
+use Rattle.outcome.specs.Outcome.{outcome_by}
+use Rattle.listing_text.specs.declared.TooShort.{TooShort}
+use Rattle.listing_text.specs.Listing.{listed_by}
 use Rattle.dials.specs.Highest.{top_by}
 use Rattle.small.specs.Small.{yielded_by}
 
@@ -86,6 +93,28 @@ panel_told (Err x) (Err y) h =
     let offset_is : x.offset ≡ y.offset = ap (λ x. x.offset) h in
     let present_is : x.present ≡ y.present = ap (λ x. x.present) h in
     rw (refusal_is, offset_is, present_is)
+
+pub outcome_told : (r s : Result Accepted Stopped) → outcome_by r ≡ outcome_by s → r ≡ s
+outcome_told (Ok a) (Ok b) h =
+    let width_is : a.width ≡ b.width = cc in
+    let construction_is : a.construction ≡ b.construction = cc in
+    let entries_is : a.entries ≡ b.entries = cc in
+    let bytes_is : a.bytes ≡ b.bytes = cc in
+    rw (width_is, construction_is, entries_is, bytes_is)
+outcome_told (Ok a) (Err y) h = cc
+outcome_told (Err x) (Ok b) h = cc
+outcome_told (Err x) (Err y) h =
+    let refusal_is : x.refusal ≡ y.refusal = number_tells x.refusal y.refusal cc in
+    let record_is : x.«record» ≡ y.«record» = cc in
+    let offset_is : x.offset ≡ y.offset = cc in
+    let present_is : x.present ≡ y.present = cc in
+    rw (refusal_is, record_is, offset_is, present_is)
+
+pub listed_told : (r s : Result ℕ TooShort) → listed_by r ≡ listed_by s → r ≡ s
+listed_told (Ok m) (Ok n) h = rw (ap (λ x. x.bytes) h)
+listed_told (Ok m) (Err y) h = let never : ◌≡◌ {A = ℕ} 0 17 = ap (λ x. x.refusal) h in absurd (omega arith)
+listed_told (Err x) (Ok n) h = let never : ◌≡◌ {A = ℕ} 17 0 = ap (λ x. x.refusal) h in absurd (omega arith)
+listed_told (Err x) (Err y) h = let wanted_is : x.wanted ≡ y.wanted = ap (λ x. x.wanted) h in rw wanted_is
 
 pub top_told : (r s : Result (Option ℕ) Refusal) → top_by r ≡ top_by s → r ≡ s
 top_told (Ok (Some m)) (Ok (Some n)) h = cc
