@@ -10,82 +10,96 @@ ghost use Rattle.console_record.specs.Record.{has_dealt, count_entry, is_down, t
 
 use board::{Board, Place};
 
-// ---- the members of a list
+// ---- a list
 
-// What a list of a record has for each exit, cell or token.
-pub trait Member {
-    ghost shown: { Self → Bool };
+// A list of a record: what it has for each exit, cell or token, and the entries that are shown.
+pub trait Listing {
+    type Member;
 
-    ghost entry: { ℕ → Self → List ℕ };
+    ghost shown: { Self.Member → Bool };
+
+    ghost entry: { ℕ → Self.Member → List ℕ };
 
     // Does it differ from that of an opening?
-    fn is_shown(&self) -> bool
-        ensures { result ≡ shown self.now };
+    fn is_shown(member: &Self::Member) -> bool
+        ensures { result ≡ shown member.now };
 
-    // Its entry in the list, where its own index is in front.
-    fn put(&self, out: &mut [u8], at: usize, index: usize) -> usize
-        ensures { Puts (entry index self.now) at out.old result out.new };
+    // Its entry, with its index in front.
+    fn put(out: &mut [u8], at: usize, index: usize, member: &Self::Member) -> usize
+        ensures { Puts (entry index member.now) at out.old result out.new };
 }
 
 // `i=n`: exit i has dealt n numbers
-impl Member for u32 {
+struct Counts;
+
+impl Listing for Counts {
+    type Member = u32;
+
     ghost shown = { has_dealt };
 
     ghost entry = { count_entry };
 
-    fn is_shown(&self) -> bool {
-        *self != 0
+    fn is_shown(dealt: &u32) -> bool {
+        *dealt != 0
     }
 
-    fn put(&self, out: &mut [u8], at: usize, index: usize) -> usize {
-        let first = text::put_number(out, at, index, b'=');
-        text::put_decimal(out, first, *self as usize)
+    fn put(out: &mut [u8], at: usize, exit: usize, dealt: &u32) -> usize {
+        let first = text::put_number(out, at, exit, b'=');
+        text::put_decimal(out, first, *dealt as usize)
     }
 }
 
 // `i`: toggle i is down
-impl Member for bool {
+struct Toggles;
+
+impl Listing for Toggles {
+    type Member = bool;
+
     ghost shown = { is_down };
 
     ghost entry = { toggle_entry };
 
-    fn is_shown(&self) -> bool {
-        *self
+    fn is_shown(down: &bool) -> bool {
+        *down
     }
 
-    fn put(&self, out: &mut [u8], at: usize, index: usize) -> usize {
-        text::put_decimal(out, at, index)
+    fn put(out: &mut [u8], at: usize, cell: usize, _down: &bool) -> usize {
+        text::put_decimal(out, at, cell)
     }
 }
 
 // `t=INSIDE/LEVEL/WIRE`: where token t is
-impl Member for Place {
+struct Places;
+
+impl Listing for Places {
+    type Member = Place;
+
     ghost shown = { is_placed };
 
     ghost entry = { place_entry };
 
-    fn is_shown(&self) -> bool {
-        self.inside || self.level != 0 || self.wire != 0
+    fn is_shown(place: &Place) -> bool {
+        place.inside || place.level != 0 || place.wire != 0
     }
 
-    fn put(&self, out: &mut [u8], at: usize, index: usize) -> usize {
-        let first = text::put_number(out, at, index, b'=');
-        let second = text::put_number(out, first, usize::from(self.inside), b'/');
-        let third = text::put_number(out, second, usize::from(self.level), b'/');
-        text::put_decimal(out, third, usize::from(self.wire))
+    fn put(out: &mut [u8], at: usize, token: usize, place: &Place) -> usize {
+        let first = text::put_number(out, at, token, b'=');
+        let second = text::put_number(out, first, usize::from(place.inside), b'/');
+        let third = text::put_number(out, second, usize::from(place.level), b'/');
+        text::put_decimal(out, third, usize::from(place.wire))
     }
 }
 
-// The entries of those members that are shown, with commas between them.
-pub fn put_members<M: Member>(out: &mut [u8], at: usize, members: &[M]) -> usize
-    ensures { Puts (listed (indexed M.shown M.entry 0 members.now)) at out.old result out.new }
+// The entries that are shown, with commas between them; `-` where there are none.
+pub fn put_list<L: Listing>(out: &mut [u8], at: usize, members: &[L::Member]) -> usize
+    ensures { Puts (listed (indexed L.shown L.entry 0 members.now)) at out.old result out.new }
 {
     let mut next = at;
     let mut some = false;
     for (index, member) in members.iter().enumerate() {
-        if member.is_shown() {
+        if L::is_shown(member) {
             let first = text::put_comma(out, next, some);
-            next = member.put(out, first, index);
+            next = L::put(out, first, index, member);
             some = true;
         }
     }
@@ -98,11 +112,11 @@ pub fn put_members<M: Member>(out: &mut [u8], at: usize, members: &[M]) -> usize
 fn put_board(out: &mut [u8], at: usize, board: Board) -> usize
     ensures { Puts (board_text board) at out.old result out.new }
 {
-    let first = put_members(out, at, &board.counts);
+    let first = put_list::<Counts>(out, at, &board.counts);
     let second = text::put_byte(out, first, b' ');
-    let third = put_members(out, second, &board.toggles);
+    let third = put_list::<Toggles>(out, second, &board.toggles);
     let fourth = text::put_byte(out, third, b' ');
-    put_members(out, fourth, &board.places)
+    put_list::<Places>(out, fourth, &board.places)
 }
 
 // A record of this width and construction or depth, at the front.

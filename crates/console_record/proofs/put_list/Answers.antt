@@ -1,10 +1,10 @@
--- `console_record::put_members` meets its contract. The invariant: the entries of the members that are left, put where the text has got
+-- `console_record::put_list` meets its contract. The invariant: the entries of the members that are left, put where the text has got
 -- to, give the whole list. Assumes nothing.
 use mathlib.Core.Path.{sym, ◌∙◌}
 use Rattle.text.proofs.Lists.{members_none, members_all}
 use Rattle.console_record.proofs.Members.{member_shown, member_hidden}
-use Rattle.console_record.proofs.put_members.Goals as goal
-use Rattle.console_record.proofs.put_members.Goals.{then-is_shown, else-is_shown}
+use Rattle.console_record.proofs.put_list.Goals as goal
+use Rattle.console_record.proofs.put_list.Goals.{then-is_shown, else-is_shown}
 
 pub loop-index-init : goal.loop-index-init
 loop-index-init g c = members_none _ _ _ _ _

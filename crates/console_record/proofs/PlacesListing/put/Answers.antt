@@ -2,7 +2,7 @@
 use Rattle.text.specs.Text.{letters}
 use Rattle.text.proofs.Text.{puts_then}
 use Rattle.console_record.proofs.Members.{one_of}
-use Rattle.console_record.proofs.PlaceMember.put.Goals as goal
+use Rattle.console_record.proofs.PlacesListing.put.Goals as goal
 
 pub returns : goal.returns
 unfolding letters
