@@ -6,203 +6,137 @@
 // does the same in plain C.
 #![tactic(auto)]
 
-ghost use Rattle.std.specs.Prelude.{◌≡◌, ◌≤◌, EachIndex, slice_index, length};
-
+use board::Board;
 use moves::Turn;
-use outcome::Outcome;
-use records::{Read, Record};
+use order::Refusal;
+use records::Record;
 use run::Run;
 use std::io;
 
-fn plus(a: u64, b: u64) -> u64 {
-    std::num::wrapping_add_u64(a, b)
+// Takes a step so many times, and adds up, modulo 2^64, what each comes to. A step is told how many were taken before it.
+fn repeated<F: FnMut(u64) -> u64>(n: u64, mut step: F) -> u64
+    requires { F.IsAlwaysCallable step }
+{
+    let mut sum = 0u64;
+    for i in 0..n {
+        sum = sum.wrapping_add(step(i));
+    }
+    sum
 }
 
-fn byte(x: u8) -> u64 {
-    x as u64
-}
-
-fn wide(x: u32) -> u64 {
-    x as u64
+// How much a call filled, 0 where it was refused, and a value of what it filled.
+fn filled<E: Drop>(done: Result<usize, E>, value: u64) -> u64 {
+    value.wrapping_add(done.map_or(0, |n| n as u64))
 }
 
 // ---- 1 and 2
 
-#[derive(Clone, Copy)]
-struct Going {
-    run: Run,
-    sum: u64,
-}
-
-fn number_in(answer: Turn) -> u64 {
+// The number that a turn deals; 0 where it deals none.
+fn number_in(answer: Result<Turn, Refusal>) -> u64 {
     match answer {
-        Turn::Passed { .. } => 0,
-        Turn::Dealt { exit: _, number } => number as u64,
-        Turn::Refused(_) => 0,
+        Ok(Turn::Dealt { number, .. }) => u64::from(number),
+        _ => 0,
     }
 }
 
-fn turns(run: Run, token: u16, count: u16) -> Going {
-    let mut x = run;
-    let mut sum = 0u64;
-    let mut k = 0u16;
-    while k < count {
-        let turned = x.turn(token);
-        let answer = turned.answer;
-        sum = plus(sum, number_in(answer));
-        let after = turned.run;
-        x = after;
-        k += 1;
-    }
-    Going { run: x, sum }
+fn turns(run: &mut Run, token: u16, count: u16) -> u64 {
+    repeated(u64::from(count), |_| {
+        let turned = run.turn(token);
+        *run = turned.state;
+        number_in(turned.answer)
+    })
 }
 
 fn requests(construction: u16, n: u64) -> u64 {
     let count = network::depth_of(Run::MAX_WIDTH, construction) % 64 + 1;
-    let opened = Run::open(Run::MAX_WIDTH, construction);
-    let mut x = opened.run;
-    let mut sum = 0u64;
-    let mut i = 0u64;
-    while i < n {
+    let mut run = Run::open(Run::MAX_WIDTH, construction).state;
+    repeated(n, |i| {
         let token = (i % 256) as u16;
-        let entered = x.enter(token, (i % 64) as u16);
-        let inside = entered.run;
-        let gone = turns(inside, token, count);
-        sum = plus(sum, gone.sum);
-        let after = gone.run;
-        x = after;
-        i += 1;
-    }
-    sum
+        run = run.enter(token, (i % 64) as u16).state;
+        turns(&mut run, token, count)
+    })
 }
 
 // ---- 3 and 4
 
 fn sheets_filled(n: u64) -> u64 {
-    let mut out: [u8; 4096] = streams::zeros();
-    let mut sum = 0u64;
-    let mut i = 0u64;
-    while i < n {
+    let mut out: [u8; 4096] = streams::buffer_of(0);
+    repeated(n, |i| {
         let done = sheets::sheet(Run::MAX_WIDTH, Run::PERIODIC, &mut out);
-        let at = (i % 2304) as usize;
-        sum = plus(sum, plus(done.filled as u64, byte(out[at])));
-        i += 1;
-    }
-    sum
+        filled(done, u64::from(out[(i % 2304) as usize]))
+    })
 }
 
 // A record never reached, with the most that can have entered: exit 63 has dealt the numbers of three exits besides its own, so
 // that 46,875 are missing.
 fn lopsided() -> Run {
-    let opened = Run::open(Run::MAX_WIDTH, Run::BITONIC);
-    let mut x = opened.run;
-    let mut b = x.board;
+    let run = Run::open(Run::MAX_WIDTH, Run::BITONIC).state;
     let mut counts = [15625u32; 64];
-    counts[60] = 0;
-    counts[61] = 0;
-    counts[62] = 0;
-    counts[63] = 62500;
-    b.counts = counts;
-    b.entered = 1000000;
-    x.board = b;
-    x
-}
-
-// So many zeros; see `streams::zeros`.
-fn zeros<const N: usize>() -> [u32; N]
-    ensures long { length result ≡ N }
-    ensures zero { EachIndex result (λ i. slice_index result i ≡ 0) }
-{
-    [0; N]
+    counts[60..].copy_from_slice(&[0, 0, 0, 62500]);
+    let board = Board {
+        entered: 1_000_000,
+        counts,
+        ..run.board
+    };
+    Run { board, ..run }
 }
 
 fn gaps_listed(n: u64) -> u64 {
-    let x = lopsided();
-    let mut out: [u32; 65536] = zeros();
-    let mut sum = 0u64;
-    let mut i = 0u64;
-    while i < n {
-        let done = gaps::gap_list(x, &mut out);
-        let at = (i % 46875) as usize;
-        sum = plus(sum, plus(done.filled as u64, wide(out[at])));
-        i += 1;
-    }
-    sum
+    let run = lopsided();
+    let mut out: [u32; 65536] = streams::buffer_of(0);
+    repeated(n, |i| {
+        let done = gaps::gap_list(run, &mut out);
+        filled(done, u64::from(out[(i % 46875) as usize]))
+    })
 }
 
 // ---- 5
 
-fn fields_of(read: Read) -> u64 {
-    let Read::Got(item, length) = read else {
-        return 0;
-    };
-    let all = length as u64;
-    match item {
-        Record::Open {
-            width: _,
-            construction: _,
-        } => all,
-        Record::Enter { token: _, wire: _ } => all,
-        Record::Turn { token: _ } => all,
-        Record::Close { entered: _ } => all,
+// The fields of a number record, added up; 0 of another.
+fn fields_of(record: Record) -> u64 {
+    match record {
         Record::Number {
             token,
             wire,
             number,
-        } => plus(all, plus(token as u64, plus(wire as u64, number as u64))),
+        } => u64::from(token) + u64::from(wire) + u64::from(number),
+        _ => 0,
     }
 }
 
 fn record_again(i: u64, out: &mut [u8]) -> u64 {
-    let item = Record::Number {
+    let record = Record::Number {
         token: (i % 256) as u16,
         wire: (i % 64) as u16,
         number: (i % 1_000_000) as u32,
     };
-    let written = records::write_record(item, out);
-    plus(written.filled as u64, fields_of(records::read_record(out)))
+    let written = records::write_record(record, out);
+    let read = records::read_record(out);
+    let fields = read.map_or(0, |got| fields_of(got.record));
+    filled(written, filled(read.map(|got| got.length), fields))
 }
 
 fn records_again(n: u64) -> u64 {
-    let mut out: [u8; 4096] = streams::zeros();
-    let mut sum = 0u64;
-    let mut i = 0u64;
-    while i < n {
-        sum = plus(sum, record_again(i, &mut out));
-        i += 1;
-    }
-    sum
+    let mut out: [u8; 4096] = streams::buffer_of(0);
+    repeated(n, |i| record_again(i, &mut out))
 }
 
 // ---- 6 to 10
 
 // A record at a place, where there is room for it; the place behind it.
-fn put(item: Record, at: usize, out: &mut [u8]) -> usize {
-    if at < out.len() {
-        let written = records::write_record(item, &mut out[at..]);
-        let n = written.filled;
-        if n <= 12 {
-            return at + n;
-        }
-    }
-    at
+fn put(record: Record, at: usize, out: &mut [u8]) -> usize {
+    out.get_mut(at..).map_or(at, |rest| {
+        at.saturating_add(records::write_record(record, rest).unwrap_or(0))
+    })
 }
 
 // One request with its 22 turns.
 fn put_request(i: u32, from: usize, out: &mut [u8]) -> usize {
     let token = (i % 256) as u16;
-    let mut at = put(
-        Record::Enter {
-            token,
-            wire: (i % 64) as u16,
-        },
-        from,
-        out,
-    );
-    let mut k = 0u16;
-    while k < 22 {
+    let wire = (i % 64) as u16;
+    let mut at = put(Record::Enter { token, wire }, from, out);
+    for _ in 0..22 {
         at = put(Record::Turn { token }, at, out);
-        k += 1;
     }
     at
 }
@@ -217,166 +151,83 @@ fn put_schedule(requests: u32, out: &mut [u8]) -> usize {
         0,
         out,
     );
-    let mut i = 0u32;
-    while i < requests {
+    for i in 0..requests {
         at = put_request(i, at, out);
-        i += 1;
     }
     put(Record::Close { entered: requests }, at, out)
 }
 
-fn bytes_in(outcome: Outcome) -> u64 {
-    match outcome {
-        Outcome::Accepted {
-            width: _,
-            construction: _,
-            entries: _,
-            bytes,
-        } => bytes as u64,
-        Outcome::Refused {
-            number: _,
-            record: _,
-            offset: _,
-            present: _,
-        } => 0,
-    }
+// Runs a schedule, as often as asked.
+fn run_again(bytes: &[u8], n: u64) -> u64 {
+    let mut out: [u8; 65536] = streams::buffer_of(0);
+    repeated(n, |i| {
+        let done = schedule::run(bytes, &mut out).map(|accepted| accepted.bytes);
+        filled(done, u64::from(out[(i % 1404) as usize]))
+    })
 }
 
-// A byte of a buffer, 0 past its end.
-fn byte_in(out: &[u8], at: usize) -> u64 {
-    if at < out.len() { byte(out[at]) } else { 0 }
-}
-
-// Runs the first bytes of a schedule, as often as asked.
-fn run_again(bytes: &[u8], size: usize, out: &mut [u8], n: u64) -> u64 {
-    if bytes.len() < size {
-        return 0;
-    }
-    let mut sum = 0u64;
-    let mut i = 0u64;
-    while i < n {
-        let outcome = schedule::run(&bytes[0..size], out);
-        sum = plus(
-            sum,
-            plus(bytes_in(outcome), byte_in(out, (i % 1404) as usize)),
-        );
-        i += 1;
-    }
-    sum
-}
-
+// Of a schedule of so many requests, the first bytes.
 fn schedules_run(requests: u32, size: usize, n: u64) -> u64 {
-    let mut bytes: [u8; 65536] = streams::zeros();
-    let mut out: [u8; 65536] = streams::zeros();
+    let mut bytes: [u8; 65536] = streams::buffer_of(0);
     put_schedule(requests, &mut bytes);
-    run_again(&bytes, size, &mut out, n)
+    bytes.get(..size).map_or(0, |part| run_again(part, n))
 }
 
 fn schedules_listed(n: u64) -> u64 {
-    let mut bytes: [u8; 65536] = streams::zeros();
-    let mut out: [u8; 65536] = streams::zeros();
+    let mut bytes: [u8; 65536] = streams::buffer_of(0);
+    let mut out: [u8; 65536] = streams::buffer_of(0);
     put_schedule(468, &mut bytes);
-    let mut sum = 0u64;
-    let mut i = 0u64;
-    while i < n {
+    repeated(n, |i| {
         let listed = listing_text::listing(&bytes, &mut out);
-        let at = (i % 4096) as usize;
-        sum = plus(sum, plus(listed.bytes as u64, byte(out[at])));
-        i += 1;
-    }
-    sum
+        filled(listed, u64::from(out[(i % 4096) as usize]))
+    })
 }
 
 // ---- 13 and 14
 
-// The byte at a place of crosses one after another behind a head of 4: each of 19 bytes, its 14 wires go round.
-fn cross_byte(at: usize) -> u8 {
-    let j = (at % 19 + 15) % 19;
-    match j {
-        0 => 19,
-        1 => 0,
-        2 => 20,
-        3 => 0,
-        4 => 14,
-        _ => ((j + 10) % 14) as u8,
-    }
-}
+// A cross of 14 wires that go round: its length and its kind, of two bytes each, its width, and the places.
+const CROSS: [u8; 19] = [
+    19, 0, 20, 0, 14, 1, 2, 3, 4, 5, 6, 7, 8, 9, 10, 11, 12, 13, 0,
+];
 
-// The head of a series of so many bytes, and the crosses.
+// The head of a series of so many bytes, and crosses one after another.
 fn put_design(size: u16, out: &mut [u8]) {
-    let mut at = 0;
-    while at < out.len() {
-        out[at] = match at {
-            0 => (size % 256) as u8,
-            1 => (size / 256 % 256) as u8,
-            2 => 16,
-            3 => 0,
-            _ => cross_byte(at),
-        };
-        at += 1;
+    let [low, high] = size.to_le_bytes();
+    let head = [low, high, 16, 0];
+    let design = head.iter().chain(CROSS.iter().cycle());
+    for (byte, value) in out.iter_mut().zip(design) {
+        *byte = *value;
     }
 }
 
-fn read_again(bytes: &[u8], size: usize, n: u64) -> u64 {
-    if bytes.len() < size {
-        return 0;
-    }
-    let mut sheet: [u8; 2368] = streams::zeros();
-    let mut sum = 0u64;
-    let mut i = 0u64;
-    while i < n {
-        let read = panels::read(&bytes[0..size], &mut sheet);
-        let at = (i % 14) as usize;
-        sum = plus(sum, plus(read.filled as u64, byte(sheet[at])));
-        i += 1;
-    }
-    sum
+fn read_again(bytes: &[u8], n: u64) -> u64 {
+    let mut sheet: [u8; 2368] = streams::buffer_of(0);
+    repeated(n, |i| {
+        let done = panels::read(bytes, &mut sheet).map(|panel| panel.filled);
+        filled(done, u64::from(sheet[(i % 14) as usize]))
+    })
 }
 
 fn designs_read(size: u16, n: u64) -> u64 {
-    let mut bytes: [u8; 65535] = streams::zeros();
+    let mut bytes: [u8; 65535] = streams::buffer_of(0);
     put_design(size, &mut bytes);
-    read_again(&bytes, size as usize, n)
+    read_again(&bytes[..usize::from(size)], n)
 }
 
 // ---- the line
 
-#[derive(Clone, Copy)]
-struct Number {
-    value: u64,
-    at: usize,
-}
-
-// The value of a decimal digit, and 10 for any other byte.
-fn digit(b: u8) -> u64
-    ensures { result ≤ 10 }
-{
-    if b < 48 {
-        return 10;
-    }
-    if 57 < b {
-        return 10;
-    }
-    (b - 48) as u64
-}
-
-// The number at a place, of at most twelve digits, and the place behind it and one byte more.
-fn number_at(text: &[u8], from: usize) -> Number {
-    let mut value = 0u64;
-    let mut at = from;
-    while at < text.len() {
-        let d = digit(text[at]);
-        at += 1;
-        if 9 < d {
-            return Number { value, at };
-        }
+// The number of these digits, of at most twelve of them.
+fn number(digits: &[u8]) -> u64 {
+    digits.iter().fold(0, |value, digit| {
         if value < 100_000_000_000 {
-            value = value * 10 + d;
+            value * 10 + u64::from(digit.wrapping_sub(b'0'))
+        } else {
+            value
         }
-    }
-    Number { value, at }
+    })
 }
 
+// The input says by a number what to do.
 fn work(what: u64, n: u64) -> u64 {
     match what {
         1 => requests(Run::BITONIC, n),
@@ -395,12 +246,13 @@ fn work(what: u64, n: u64) -> u64 {
     }
 }
 
+// What is between the bytes that are no digits: the first two are WHAT and N.
 fn main(rt: HostRuntime) -> io::Result<()> {
     let mut text = [0u8; 64];
     let n = streams::read_full(&mut rt.stdin(), &mut text)?;
-    let line = &text[..n];
-    let what = number_at(line, 0);
-    let count = number_at(line, what.at);
-    let sum = work(what.value, count.value);
+    let mut words = text[..n].split(|byte| !byte.is_ascii_digit());
+    let what = words.next().map_or(0, number);
+    let count = words.next().map_or(0, number);
+    let sum = work(what, count);
     println!(rt; "{sum}")
 }

@@ -1,15 +1,15 @@
--- Laws of `all` and `sum_of` over a list, for any element. In order: tests taken apart; a loop that goes through an array, by what
--- is done and what is left; reads and stores past the end; a store; one element; a list of one value.
+-- Laws of `all` and `sum_of` over a list, for any element. In order: tests taken apart; the library's words; a loop that goes through
+-- an array, by what is done and what is left; reads past the end; a store; one element; a list of one value.
 -- Assumes nothing.
 use mathlib.Core.Path.{◌≡◌, refl, sym, ◌∙◌}
 use mathlib.Core.List.{List, [], ◌∷◌, map}
-use mathlib.Core.Bool.{Bool, true, false, cond, ◌&&◌, and_assoc, and-true}
-use Prim.Native.Nat.{ℕ, zero, suc, ◌+◌, ◌<◌, ◌≤◌}
-use native.Mathlib.Numerals.{add-one}
-use native.Mathlib.Nat.{add_assoc, add-zero}
+use mathlib.Core.Bool.{Bool, true, false, not, cond, ◌&&◌}
+use Prim.Native.Nat.{ℕ, zero, suc, ◌+◌, ◌*◌, ◌<◌, ◌≤◌}
 use native.Mathlib.Omega.{arith}
-use lib.ListN.{length, drop, get_or, set, replicate, drop_of_length-le, length-map, get_or-eq_default}
-use lib.Seq.{drop-cons, set_out}
+use lib.ListN.{length, take, drop, get_or, set, replicate, length-map, get_or-eq_default}
+use Rattle.std.specs.List.{sum_by, list_any, list_all}
+use Rattle.std.proofs.lemmas.List.{take_all}
+use Rattle.std.proofs.lemmas.List.Recursion.{is_sum_by, same_from_clauses}
 use Rattle.board.specs.Sound.{all, sum_of, itself}
 
 -- ---- two tests that hold together
@@ -26,46 +26,40 @@ pub cond_case : {A : Type 0} (P : A → Type 0) (b : Bool) (x y : A) → (b ≡ 
 cond_case P true x y f g = f refl
 cond_case P false x y f g = g refl
 
+-- ---- against the library's words
+pub sum_of_is : {A : Type 0} (f : A → ℕ) (l : List A) → sum_of f l ≡ sum_by f l
+unfolding sum_of
+sum_of_is f = is_sum_by (sum_of f) f refl (λ _ _. refl)
+
+pub all_is : {A : Type 0} (p : A → Bool) (l : List A) → all p l ≡ list_all p l
+unfolding all
+all_is p = same_from_clauses (all p) (list_all p) (λ a b. p a && b) refl (λ _ _. refl) (λ _ _. refl)
+
+-- where no element passes a test that only `true` passes, all are false
+pub none_down : (f : Bool → Bool) → f true ≡ true → f false ≡ false → (l : List Bool) → not (list_any f l) ≡ all not l
+unfolding all
+none_down f t u [] = refl
+none_down f t u (true ∷ l) = rw t
+none_down f t u (false ∷ l) = rw u (none_down f t u l)
+
 -- a field that is an array of structs: its length is known of the structs' tuples
 pub mapped : {A B : Type 0} (f : A → B) (l : List A) (n : ℕ) → length (map f l) ≡ n → length l ≡ n
 mapped f l n e = sym (length-map l f) ∙ e
 
+-- a loop over all of a list, which has gone by what it took
+module _ {A : Type 0} (l : List A) (i : ℕ) (past : length l ≤ i) where
+  pub all_taken : (p : A → Bool) (ok : Bool) → ok ≡ list_all p (take i l) → ok ≡ all p l
+  all_taken p ok e = rw (take_all i l past) at e ∙ sym (all_is p l)
+
+  pub sum_taken : (f : A → ℕ) (n : ℕ) → n ≡ sum_by f (take i l) → n ≡ sum_of f l
+  sum_taken f n e = rw (take_all i l past) at e ∙ sym (sum_of_is f l)
+
 module _ {A : Type 0} (d : A) (l : List A) where
-  -- ---- a loop: the element at i is taken in, and past the end all is done
-  pub all_more : (p : A → Bool) (n i : ℕ) (ok v w : Bool) → length l ≡ n → i < n → v ≡ p (get_or l i d) → ok && all p (drop i l) ≡ w → (ok && v) && all p (drop (i + 1) l) ≡ w
-  unfolding all
-  all_more p n i ok v w e h g q =
-      let k : i < length l = omega arith in
-      rw (g, add-one, and_assoc, ← q, drop-cons l i d k)
-
-  pub all_done : (p : A → Bool) (n i : ℕ) (ok w : Bool) → length l ≡ n → n ≤ i → ok && all p (drop i l) ≡ w → ok ≡ w
-  unfolding all
-  all_done p n i ok w e h q =
-      let k : length l ≤ i = omega arith in
-      rw (← q, drop_of_length-le l k, and-true)
-
-  pub sum_more : (f : A → ℕ) (n i a v w : ℕ) → length l ≡ n → i < n → v ≡ f (get_or l i d) → a + sum_of f (drop i l) ≡ w → a + v + sum_of f (drop (i + 1) l) ≡ w
-  unfolding sum_of
-  sum_more f n i a v w e h g q =
-      let k : i < length l = omega arith in
-      rw (g, add-one, add_assoc, ← q, drop-cons l i d k)
-
-  pub sum_done : (f : A → ℕ) (n i a w : ℕ) → length l ≡ n → n ≤ i → a + sum_of f (drop i l) ≡ w → a ≡ w
-  unfolding sum_of
-  sum_done f n i a w e h q =
-      let k : length l ≤ i = omega arith in
-      rw (← q, drop_of_length-le l k, add-zero)
-
   -- ---- past the end: what is read is the default, and a store changes nothing
   pub read_out : (n i : ℕ) → length l ≡ n → n ≤ i → d ≡ get_or l i d
   read_out n i e h =
       let k : length l ≤ i = omega arith in
       sym (get_or-eq_default l d k)
-
-  pub store_out : (n i : ℕ) (v : A) → length l ≡ n → n ≤ i → l ≡ set l i v
-  store_out n i v e h =
-      let k : length l ≤ i = omega arith in
-      sym (set_out l i v k)
 
 module _ {A : Type 0} where
   -- ---- a store
@@ -104,6 +98,12 @@ module _ {A : Type 0} where
   unfolding sum_of
   sum_replicate f a zero h = refl
   sum_replicate f a (suc n) h = omega (arith, sum_replicate f a n h)
+
+-- a sum of numbers that are at most m
+pub sum_le : (m : ℕ) (l : List ℕ) → ((i : ℕ) → get_or l i 0 ≤ m) → sum_of itself l ≤ m * length l
+unfolding sum_of
+sum_le m [] h = omega arith
+sum_le m (a ∷ l) h = omega (arith, h 0, sum_le m l (λ i. h (suc i)))
 
 -- an element is at most the sum
 pub elem_le : (l : List ℕ) (i : ℕ) → get_or l i 0 ≤ sum_of itself l

@@ -1,11 +1,10 @@
 // The moving part of any layered network as it stands, by value: toggles, exit counts, token places and entered; and whether it is
-// sound. Width and depth come from the caller; nothing here knows a construction. Of a lent array a `requires` asks its length,
-// which is not known behind a reference.
+// sound. Width and depth come from the caller; nothing here knows a construction.
 #![tactic(auto)]
 
-ghost use Rattle.std.specs.Prelude.{◌≡◌, not, ◌+◌, ◌*◌, ◌/◌, ◌<◌, ◌≤◌, eqb, length, drop};
+ghost use Rattle.std.specs.Prelude.{◌≡◌, not, ◌+◌, ◌*◌, ◌/◌, ◌<◌, ◌≤◌, drop};
 ghost use Rattle.board.specs.Board.{free_place, fresh_board};
-ghost use Rattle.board.specs.Sound.{all, sum_of, place_ok, is_zero, itself, inside_one, sound_board};
+ghost use Rattle.board.specs.Sound.{all, sum_of, place_ok, is_zero, itself, inside_one, adds_up, sound_board};
 
 // ---- limits
 
@@ -25,7 +24,7 @@ pub const CELLS: usize = 1152;
 // ---- the record
 
 // Where a token is; while it is free, level 0 and wire 0.
-#[derive(Clone, Copy)]
+#[derive(Clone, Copy, Debug, PartialEq, Eq)]
 pub struct Place {
     pub inside: bool,
     pub level: u16,
@@ -52,18 +51,15 @@ pub fn free_place() -> Place
 }
 
 // As it opens.
+#[tactic(auto, unfolding(crate::specs::Board::fresh_board))]
 pub fn fresh() -> Board
     ensures { result ≡ fresh_board }
 {
-    let free = free_place();
-    let counts = [0u32; EXITS];
-    let toggles = [false; CELLS];
-    let places = [free; TOKENS];
     Board {
         entered: 0,
-        counts,
-        toggles,
-        places,
+        counts: [0; EXITS],
+        toggles: [false; CELLS],
+        places: [free_place(); TOKENS],
     }
 }
 
@@ -78,108 +74,80 @@ fn place_ok(width: u16, depth: u16, p: Place) -> bool
     (p.level == 0) & (p.wire == 0)
 }
 
-fn places_ok(places: [Place; TOKENS], width: u16, depth: u16) -> bool
-    ensures { result ≡ all (place_ok width depth) places }
+// The loops over places, and over counts, end at none that fails: `all`, which does, is slower where none fails.
+fn places_ok(places: &[Place; TOKENS], width: u16, depth: u16) -> bool
+    ensures { result ≡ all (place_ok width depth) places.now }
 {
     let mut ok = true;
-    let mut i = 0;
-    while i < TOKENS {
-        let p = places[i];
-        let good = place_ok(width, depth, p);
-        ok = ok & good;
-        i += 1;
+    for p in places {
+        ok &= place_ok(width, depth, *p);
     }
     ok
 }
 
+// What lies beyond a place: nothing where there is no such place.
+fn beyond<T>(xs: &[T], from: usize) -> &[T]
+    ensures { result.now ≡ drop from xs.now }
+{
+    xs.get(from..).unwrap_or(&[])
+}
+
 fn counts_zero(counts: &[u32; EXITS], from: usize) -> bool
-    requires { length counts.now ≡ 64 }
     ensures { result ≡ all is_zero (drop from counts.now) }
 {
     let mut ok = true;
-    let mut i = from;
-    while i < EXITS {
-        ok = ok & (counts[i] == 0);
-        i += 1;
+    for c in beyond(counts, from) {
+        ok &= *c == 0;
     }
     ok
 }
 
 fn toggles_up(toggles: &[bool; CELLS], from: usize) -> bool
-    requires { length toggles.now ≡ 1152 }
     ensures { result ≡ all not (drop from toggles.now) }
 {
-    let mut ok = true;
-    let mut i = from;
-    while i < CELLS {
-        ok = ok & !toggles[i];
-        i += 1;
-    }
-    ok
+    !beyond(toggles, from).contains(&true)
 }
 
 fn cells(width: u16, depth: u16) -> usize
     ensures { result ≡ depth * (width / 2) }
 {
-    (depth as usize) * ((width / 2) as usize)
-}
-
-fn wide(n: u32) -> u64
-    ensures { (result ≡ n) × (n < 4294967296) }
-{
-    n as u64
+    usize::from(depth) * usize::from(width / 2)
 }
 
 // The numbers dealt at all exits, in 64 bits: 64 counts of 32 bits do not wrap.
 fn dealt_sum(counts: &[u32; EXITS]) -> u64
-    requires { length counts.now ≡ 64 }
     ensures { (result ≡ sum_of itself counts.now) × (result < 64 * 4294967296) }
 {
-    let mut sum: u64 = 0;
-    let mut i = 0;
-    while i < EXITS {
-        sum += wide(counts[i]);
-        i += 1;
+    counts.iter().map(|c| u64::from(*c)).sum()
+}
+
+// A loop over all: `filter` and `count` are slower.
+pub fn inside_sum(places: &[Place; TOKENS]) -> u32
+    ensures { (result ≡ sum_of inside_one places.now) × (result ≤ 256) }
+{
+    let mut sum = 0;
+    for p in places {
+        sum += u32::from(p.inside);
     }
     sum
 }
 
-fn one_inside(place: Place) -> u64
-    ensures { (result ≡ inside_one place) × (result ≤ 1) }
+#[tactic(auto, unfolding(crate::specs::Sound::adds_up, crate::specs::Sound::dealt_sum, crate::specs::Sound::inside_sum))]
+fn adds_up(board: &Board) -> bool
+    ensures { result ≡ adds_up board.now }
 {
-    if place.inside { 1 } else { 0 }
-}
-
-pub fn inside_sum(places: [Place; TOKENS]) -> u64
-    ensures { (result ≡ sum_of inside_one places) × (result ≤ 256) }
-{
-    let mut sum: u64 = 0;
-    let mut i = 0;
-    while i < TOKENS {
-        let p = places[i];
-        sum += one_inside(p);
-        i += 1;
-    }
-    sum
-}
-
-fn adds_up(counts: &[u32; EXITS], places: [Place; TOKENS], entered: u32) -> bool
-    requires { length counts.now ≡ 64 }
-    ensures { result ≡ eqb (sum_of itself counts.now + sum_of inside_one places) entered }
-{
-    let sum = dealt_sum(counts) + inside_sum(places);
-    sum == wide(entered)
+    let sum = dealt_sum(&board.counts) + u64::from(inside_sum(&board.places));
+    sum == u64::from(board.entered)
 }
 
 // Is the board sound for a network of this width and depth?
-pub fn is_sound(board: Board, width: u16, depth: u16) -> bool
-    ensures { result ≡ sound_board width depth board }
+#[tactic(auto, unfolding(crate::specs::Sound::sound_board, crate::specs::Sound::few_entered, crate::specs::Sound::places_ok, crate::specs::Sound::counts_beyond, crate::specs::Sound::toggles_beyond))]
+pub fn is_sound(board: &Board, width: u16, depth: u16) -> bool
+    ensures { result ≡ sound_board width depth board.now }
 {
-    let entered = board.entered;
-    let places = board.places;
-    let placed = places_ok(places, width, depth);
-    let zero = counts_zero(&board.counts, width as usize);
+    let placed = places_ok(&board.places, width, depth);
+    let zero = counts_zero(&board.counts, usize::from(width));
     let up = toggles_up(&board.toggles, cells(width, depth));
-    let even = adds_up(&board.counts, places, entered);
-    (entered <= MAX_ENTERED) & placed & zero & up & even
+    let even = adds_up(board);
+    (board.entered <= MAX_ENTERED) & placed & zero & up & even
 }

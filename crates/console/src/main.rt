@@ -3,10 +3,10 @@
 #![tactic(auto)]
 
 ghost use Rattle.std.specs.Prelude.{◌≤◌, ◌≡◌, length};
-ghost use Rattle.console_lines.specs.Bounds.{Held};
 
 mod calls;
 
+use calls::{Ask, Call, Step, Work};
 use console_bytes::{record_calls, sheet_calls};
 use console_lines::input;
 use console_lines::input::Lines;
@@ -26,13 +26,6 @@ struct Holding {
     fed: usize,
 }
 
-// What the console holds after a line, and where the answer ends.
-#[derive(Clone, Copy)]
-struct Told {
-    holding: Holding,
-    end: usize,
-}
-
 // The calls, in one line.
 fn put_help(text: &mut [u8]) -> usize {
     text::put_text(
@@ -47,175 +40,135 @@ fn put_unknown(text: &mut [u8]) -> usize {
     text::put_text(text, 0, b"?\n")
 }
 
-// A call that changes the run. Gives the run after it.
-fn on_run(call: usize, line: &[u8], text: &mut [u8], run: Run) -> Answered {
-    match call {
-        0 => console_run::open(line, text),
-        1 => console_run::set(line, text),
-        2 => console_run::enter(line, text, run),
-        _ => console_run::turn(line, text, run),
+// What a call leaves is held from now on. Gives where its answer ends.
+fn kept<S: Copy>(answered: Answered<S>, held: &mut S) -> usize
+    ensures { held.new ≡ answered.state }
+{
+    *held = answered.state;
+    answered.end
+}
+
+// A call that changes the run.
+fn on_run(step: Step, line: &[u8], text: &mut [u8], run: Run) -> Answered<Run> {
+    match step {
+        Step::Open => console_run::open(line, text),
+        Step::Set => console_run::set(line, text),
+        Step::Enter => console_run::enter(line, text, run),
+        Step::Turn => console_run::turn(line, text, run),
     }
 }
 
-// A call that changes the run over a feed sheet. Gives the run after it.
+// A call that changes the run over a feed sheet.
 fn on_feed(
-    call: usize,
+    step: Step,
     line: &[u8],
     text: &mut [u8],
     run: FeedRun,
     sheet: &[u8],
-) -> console_feed::Answered {
-    match call {
-        4 => console_feed::open(line, text, sheet),
-        5 => console_feed::set(line, text),
-        6 => console_feed::enter(line, text, run, sheet),
-        _ => console_feed::turn(line, text, run, sheet),
+) -> Answered<FeedRun> {
+    match step {
+        Step::Open => console_feed::open(line, text, sheet),
+        Step::Set => console_feed::set(line, text),
+        Step::Enter => console_feed::enter(line, text, run, sheet),
+        Step::Turn => console_feed::turn(line, text, run, sheet),
     }
 }
 
-// A call that changes the small cabinet. Gives the cabinet after it.
-fn on_small(
-    call: usize,
-    line: &[u8],
-    text: &mut [u8],
-    cabinet: Cabinet,
-) -> console_small::Answered {
-    match call {
-        8 => console_small::open(line, text),
-        9 => console_small::set(line, text),
-        10 => console_small::enter(line, text, cabinet),
-        11 => console_small::turn(line, text, cabinet),
-        _ => console_small::poll(line, text, cabinet),
+// A call that changes the small cabinet.
+fn on_small(step: Step, line: &[u8], text: &mut [u8], cabinet: Cabinet) -> Answered<Cabinet> {
+    match step {
+        Step::Open => console_small::open(line, text),
+        Step::Set => console_small::set(line, text),
+        Step::Enter => console_small::enter(line, text, cabinet),
+        Step::Turn => console_small::turn(line, text, cabinet),
     }
 }
 
 // A call that shows a record or its gaps. Gives where its answer ends.
-fn show(call: usize, line: &[u8], text: &mut [u8], holding: Holding) -> usize {
-    let run = holding.run;
-    let feed = holding.feed;
-    let cabinet = holding.small;
-    match call {
-        14 => console_run::record(text, run),
-        15 => console_run::gaps(line, text, run),
-        16 => console_feed::record(text, feed),
-        17 => console_feed::gaps(line, text, feed),
-        _ => console_small::record(text, cabinet),
+fn show(ask: Ask, line: &[u8], text: &mut [u8], holding: &Holding) -> usize {
+    match ask {
+        Ask::Record => console_run::record(text, holding.run),
+        Ask::Gaps => console_run::gaps(line, text, holding.run),
+        Ask::FeedRecord => console_feed::record(text, holding.feed),
+        Ask::FeedGaps => console_feed::gaps(line, text, holding.feed),
+        Ask::SmallRecord => console_small::record(text, holding.small),
     }
 }
 
 // A call that what is held has no part in. Gives where its answer ends.
-fn work_out(call: usize, line: &[u8], text: &mut [u8]) -> usize {
-    match call {
-        19 => console_small::highest(line, text),
-        20 => sheet_calls::sheet(line, text),
-        21 => sheet_calls::view(line, text),
-        22 => record_calls::read(line, text),
-        23 => record_calls::run(line, text),
-        24 => console_panel::panel(line, text),
-        25 => put_help(text),
-        31 => put_unknown(text),
-        _ => record_calls::write(line, text),
+fn work_out(work: Work, line: &[u8], text: &mut [u8]) -> usize {
+    match work {
+        Work::Highest => console_small::highest(line, text),
+        Work::Sheet => sheet_calls::sheet(line, text),
+        Work::View => sheet_calls::view(line, text),
+        Work::Read => record_calls::read(line, text),
+        Work::Write => record_calls::write(line, text),
+        Work::Schedule => record_calls::run(line, text),
+        Work::Panel => console_panel::panel(line, text),
+        Work::Help => put_help(text),
+        Work::Unknown => put_unknown(text),
     }
 }
 
-// Answers a call that leaves the feed sheet as it is.
-fn answer_call(
-    call: usize,
-    line: &[u8],
-    text: &mut [u8],
-    sheet: &[u8],
-    mut holding: Holding,
-) -> Told
-    ensures { result.holding.fed ≡ holding.fed }
+// Answers a line. Gives where its answer ends.
+fn answer(line: &[u8], text: &mut [u8], sheet: &mut [u8], holding: &mut Holding) -> usize
+    requires { holding.old.fed ≤ length sheet.old }
+    ensures { holding.new.fed ≤ length sheet.new }
 {
-    if call < 4 {
-        let run = holding.run;
-        let answered = on_run(call, line, text, run);
-        let run = answered.run;
-        holding.run = run;
-        let end = answered.end;
-        return Told { holding, end };
+    match calls::call_of(line) {
+        Call::Run(step) => kept(on_run(step, line, text, holding.run), &mut holding.run),
+        Call::Feed(step) => {
+            let lent = &sheet[..holding.fed];
+            kept(
+                on_feed(step, line, text, holding.feed, lent),
+                &mut holding.feed,
+            )
+        }
+        Call::Small(step) => kept(
+            on_small(step, line, text, holding.small),
+            &mut holding.small,
+        ),
+        Call::Poll => kept(
+            console_small::poll(line, text, holding.small),
+            &mut holding.small,
+        ),
+        Call::Lend => kept(console_feed::feed(line, text, sheet), &mut holding.fed),
+        Call::Ask(ask) => show(ask, line, text, holding),
+        Call::Work(work) => work_out(work, line, text),
     }
-    if call < 8 {
-        let feed = holding.feed;
-        let answered = on_feed(call, line, text, feed, sheet);
-        let feed = answered.run;
-        holding.feed = feed;
-        let end = answered.end;
-        return Told { holding, end };
-    }
-    if call < 13 {
-        let cabinet = holding.small;
-        let answered = on_small(call, line, text, cabinet);
-        let cabinet = answered.cabinet;
-        holding.small = cabinet;
-        let end = answered.end;
-        return Told { holding, end };
-    }
-    if call < 19 {
-        let end = show(call, line, text, holding);
-        return Told { holding, end };
-    }
-    let end = work_out(call, line, text);
-    Told { holding, end }
 }
 
-// Answers a line.
-fn answer(line: &[u8], text: &mut [u8], sheet: &mut [u8], mut holding: Holding) -> Told
-    requires { holding.fed ≤ length sheet.old }
-    ensures { result.holding.fed ≤ length sheet.new }
-{
-    let call = calls::call_of(line);
-    if call == 13 {
-        let put = console_feed::feed(line, text, sheet);
-        holding.fed = put.count;
-        let end = put.end;
-        return Told { holding, end };
-    }
-    let fed = holding.fed;
-    answer_call(call, line, text, &sheet[0..fed], holding)
-}
-
-// Answers the line that the buffer holds.
+// Answers the line that the buffer holds. Gives where its answer ends.
 fn answer_held(
     input: &[u8],
     lines: Lines,
     text: &mut [u8],
     sheet: &mut [u8],
-    holding: Holding,
-) -> Told
-    requires { Held lines.from lines.end lines.to (length input.now) × (holding.fed ≤ length sheet.old) }
-    ensures { result.holding.fed ≤ length sheet.new }
+    holding: &mut Holding,
+) -> usize
+    requires { (lines.to ≤ length input.now) × (holding.old.fed ≤ length sheet.old) }
+    ensures { holding.new.fed ≤ length sheet.new }
 {
     if lines.too_long {
-        let end = put_unknown(text);
-        return Told { holding, end };
+        return put_unknown(text);
     }
-    let from = lines.from;
-    let end = lines.end;
-    answer(&input[from..end], text, sheet, holding)
+    answer(&input[lines.from..lines.end], text, sheet, holding)
 }
 
 // What the console holds at first: records of refused openings, and no feed sheet.
 fn at_first() -> Holding
     ensures { result.fed ≡ 0 }
 {
-    let none = [0u8; 0];
-    let opened = Run::open(0, 0);
-    let fed = FeedRun::open(0, 0, &none);
-    let small = Cabinet::open(0, 0);
-    let run = opened.run;
-    let feed = fed.run;
-    let small = small.cabinet;
     Holding {
-        run,
-        feed,
-        small,
+        run: Run::open(0, 0).state,
+        feed: FeedRun::open(0, 0, &[]).state,
+        small: Cabinet::open(0, 0).state,
         fed: 0,
     }
 }
 
-// Answers lines to the end of the input.
+// Answers lines to the end of the input. A proved loop has to end, and nothing says that the input does: so lines are counted, up to
+// a number that no input uses up.
 fn serve<R: Read, W: Write>(
     reader: &mut R,
     writer: &mut W,
@@ -224,23 +177,23 @@ fn serve<R: Read, W: Write>(
     sheet: &mut [u8],
 ) -> io::Result<()> {
     let mut holding = at_first();
-    let mut lines = input::next_line(reader, input, input::start())?;
-    let mut turns = u64::MAX;
-    while turns > 0 && !lines.done {
-        let told = answer_held(input, lines, text, sheet, holding);
-        console_answers::send(writer, text, told.end)?;
-        holding = told.holding;
-        lines = input::next_line(reader, input, lines)?;
-        turns -= 1;
+    let mut before = input::start();
+    for _ in 0..u64::MAX {
+        let Some(lines) = input::next_line(reader, input, before)? else {
+            return Ok(());
+        };
+        let end = answer_held(input, lines, text, sheet, &mut holding);
+        console_answers::send(writer, text, end)?;
+        before = lines;
     }
     Ok(())
 }
 
 // The input holds the longest line and its line feed, the text the longest answer: 65,536 numbers of 10 digits.
 fn main(rt: HostRuntime) -> io::Result<()> {
-    let mut input: [u8; 262_145] = streams::zeros();
-    let mut text: [u8; 800_000] = streams::zeros();
-    let mut sheet: [u8; 65_536] = streams::zeros();
+    let mut input: [u8; 262_145] = streams::buffer_of(0);
+    let mut text: [u8; 800_000] = streams::buffer_of(0);
+    let mut sheet: [u8; 65_536] = streams::buffer_of(0);
     serve(
         &mut rt.stdin(),
         &mut rt.stdout(),

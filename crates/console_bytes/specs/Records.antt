@@ -1,13 +1,12 @@
 -- The answers to the calls on records and schedules. Definitions only. Assumes nothing.
-use Rattle.std.specs.Prelude.{ℕ, true, List, [], ◌∷◌, take}
+use Rattle.std.specs.Prelude.{ℕ, true, List, [], ◌∷◌, take, Result}
 use Rattle.text.specs.Text.{Puts}
 use Rattle.records.specs.declared.Record.{Record}
 use Rattle.records.specs.declared.Record.TheVariants.{Open, Enter, Turn, Close, Number}
-use Rattle.records.specs.declared.Read.{Read}
-use Rattle.records.specs.declared.Read.TheVariants.{Got, Refused as NotRead}
-use Rattle.outcome.specs.declared.Outcome.{Outcome}
-use Rattle.outcome.specs.declared.Outcome.TheVariants.{Accepted, Refused}
-use Rattle.records.specs.Reading.{read_of}
+use Rattle.records.specs.Reading.{Read, Got, Refused as NotRead, read_of}
+use Rattle.outcome.specs.declared.Accepted.{Accepted as AcceptedRun}
+use Rattle.outcome.specs.declared.Stopped.{Stopped}
+use Rattle.outcome.specs.Outcome.{Outcome, Accepted, Refused, outcome_by}
 use Rattle.outcome.specs.Whole.{Ran}
 use Rattle.console_lines.specs.Hex.{HexPut}
 use Rattle.console_lines.specs.Words.{word_at, room_at}
@@ -43,8 +42,8 @@ run_line (Refused number n at present) lent = bytes_line number (n ∷ at ∷ pr
 pub record RunAnswered (line before : List ℕ) (end : ℕ) (after : List ℕ) : Type 0 where
   pub bytes : List ℕ
   pub count : ℕ
-  pub outcome : Outcome
+  pub outcome : Result AcceptedRun Stopped
   pub lent : List ℕ
   pub spelt : HexPut (word_at line 2) bytes count
   pub called : Ran (take count bytes) (lent_bytes (room_at line 1)) outcome lent
-  pub puts : Puts (run_line outcome lent) 0 before end after
+  pub puts : Puts (run_line (outcome_by outcome) lent) 0 before end after

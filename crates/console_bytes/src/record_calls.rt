@@ -1,16 +1,19 @@
 // The calls on records and schedules. A line is the call that it is handed to.
 ghost use Rattle.text.specs.Text.{Puts};
+ghost use Rattle.records.specs.Reading.{read_by};
+ghost use Rattle.outcome.specs.Outcome.{outcome_by};
 ghost use Rattle.console_answers.specs.Answers.{values_line};
 ghost use Rattle.console_bytes.specs.Records.{shown_of, read_line, ReadAnswered, run_line, RunAnswered};
 
 use crate::buffers;
 use console_lines::{numbers, words};
-use outcome::Outcome;
-use records::{Read, Record};
+use outcome::{Accepted, Stopped};
+use records::{Got, Record, Unread};
 
 // ---- read
 
 // `0 KIND LENGTH FIELD ..`
+#[tactic(auto, unfolding(crate::specs::Records::shown_of))]
 fn put_item(text: &mut [u8], size: usize, item: Record) -> usize
     ensures { Puts (values_line 0 (shown_of size item)) 0 text.old result text.new }
 {
@@ -19,15 +22,15 @@ fn put_item(text: &mut [u8], size: usize, item: Record) -> usize
             width,
             construction,
         } => {
-            let values = [1, size, width as usize, construction as usize];
+            let values = [1, size, usize::from(width), usize::from(construction)];
             console_answers::put_values(text, 0, &values)
         }
         Record::Enter { token, wire } => {
-            let values = [2, size, token as usize, wire as usize];
+            let values = [2, size, usize::from(token), usize::from(wire)];
             console_answers::put_values(text, 0, &values)
         }
         Record::Turn { token } => {
-            let values = [3, size, token as usize];
+            let values = [3, size, usize::from(token)];
             console_answers::put_values(text, 0, &values)
         }
         Record::Close { entered } => {
@@ -39,20 +42,26 @@ fn put_item(text: &mut [u8], size: usize, item: Record) -> usize
             wire,
             number,
         } => {
-            let values = [5, size, token as usize, wire as usize, number as usize];
+            let values = [
+                5,
+                size,
+                usize::from(token),
+                usize::from(wire),
+                number as usize,
+            ];
             console_answers::put_values(text, 0, &values)
         }
     }
 }
 
-fn put_read(text: &mut [u8], read: Read) -> usize
-    ensures { Puts (read_line read) 0 text.old result text.new }
+#[tactic(auto, unfolding(crate::specs::Records::read_line))]
+fn put_read(text: &mut [u8], read: Result<Got, Unread>) -> usize
+    ensures { Puts (read_line (read_by read)) 0 text.old result text.new }
 {
     match read {
-        Read::Got(item, size) => put_item(text, size, item),
-        Read::Refused { number, present } => {
-            let values = [present];
-            console_answers::put_values(text, number, &values)
+        Ok(got) => put_item(text, got.length, got.record),
+        Err(unread) => {
+            console_answers::put_values(text, unread.refusal.number(), &[unread.present])
         }
     }
 }
@@ -71,10 +80,9 @@ pub fn read(line: &[u8], text: &mut [u8]) -> usize
 
 // The record that the line spells.
 fn record_in(line: &[u8]) -> Record {
-    let kind = words::short(line, 2);
     let first = words::short(line, 3);
     let second = words::short(line, 4);
-    match kind {
+    match words::short(line, 2) {
         1 => Record::Open {
             width: first,
             construction: second,
@@ -95,40 +103,27 @@ fn record_in(line: &[u8]) -> Record {
     }
 }
 
-// `write ROOM KIND FIELD ..`: the whole lent buffer after the call.
+// `write ROOM KIND FIELD ..`
 pub fn write(line: &[u8], text: &mut [u8]) -> usize {
-    let room = words::room(line, 1);
-    let mut buffer = buffers::bytes();
-    let lent = &mut buffer[0..room];
-    let done = records::write_record(record_in(line), lent);
-    let values = [done.filled];
-    console_answers::put_bytes(text, done.refusal, &values, lent)
+    let record = record_in(line);
+    buffers::filled(line, 1, text, |lent| records::write_record(record, lent))
 }
 
 // ---- run
 
 // `R RECORD OFFSET PRESENT N HEX`
-fn put_outcome(text: &mut [u8], outcome: Outcome, lent: &[u8]) -> usize
-    ensures { Puts (run_line outcome lent.now) 0 text.old result text.new }
+#[tactic(auto, unfolding(crate::specs::Records::run_line))]
+fn put_outcome(text: &mut [u8], outcome: Result<Accepted, Stopped>, lent: &[u8]) -> usize
+    ensures { Puts (run_line (outcome_by outcome) lent.now) 0 text.old result text.new }
 {
     match outcome {
-        Outcome::Accepted {
-            width: _,
-            construction: _,
-            entries: _,
-            bytes,
-        } => {
-            let values = [0, 0, 0, bytes];
+        Ok(accepted) => {
+            let values = [0, 0, 0, accepted.bytes];
             console_answers::put_bytes(text, 0, &values, lent)
         }
-        Outcome::Refused {
-            number,
-            record,
-            offset,
-            present,
-        } => {
-            let values = [record, offset, present, 0];
-            console_answers::put_bytes(text, number, &values, lent)
+        Err(stopped) => {
+            let values = [stopped.record, stopped.offset, stopped.present, 0];
+            console_answers::put_bytes(text, stopped.refusal.number(), &values, lent)
         }
     }
 }

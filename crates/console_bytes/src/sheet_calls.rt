@@ -4,42 +4,34 @@ ghost use Rattle.console_bytes.specs.Sheets.{SheetAnswered};
 use crate::buffers;
 use console_lines::words;
 
-// `sheet W C LEN`: the whole lent buffer after the call.
+// `sheet W C LEN`
 pub fn sheet(line: &[u8], text: &mut [u8]) -> usize
     ensures { SheetAnswered line.now text.old result text.new }
 {
-    let room = words::room(line, 3);
-    let mut buffer = buffers::bytes();
-    let lent = &mut buffer[0..room];
-    let done = sheets::sheet(words::short(line, 1), words::short(line, 2), lent);
-    let values = [done.filled];
-    console_answers::put_bytes(text, done.refusal, &values, lent)
-}
-
-fn next_byte(value: u8) -> u8 {
-    if value < 250 { value + 1 } else { 0 }
+    let width = words::short(line, 1);
+    let construction = words::short(line, 2);
+    buffers::filled(line, 3, text, |lent| {
+        sheets::sheet(width, construction, lent)
+    })
 }
 
 // A sheet to view: byte i is (i + first) mod 251.
 fn number_bytes(sheet: &mut [u8], first: u8) {
     let mut value = first;
-    let mut i = 0;
-    while i < sheet.len() {
-        sheet[i] = value;
-        value = next_byte(value);
-        i += 1;
+    for byte in sheet.iter_mut() {
+        *byte = value;
+        value = if value < 250 { value + 1 } else { 0 };
     }
 }
 
 // The row of one layer, from the sheet that the construction says.
-fn put_view<'a>(line: &[u8], text: &mut [u8], bitonic: &'a [u8], periodic: &'a [u8]) -> usize {
+fn put_view(line: &[u8], text: &mut [u8], bitonic: &[u8], periodic: &[u8]) -> usize {
     let width = words::short(line, 1);
     let construction = words::short(line, 2);
     let layer = words::short(line, 3);
-    let refusal = sheets::view_refusal(width, construction, layer, bitonic, periodic);
+    let checked = sheets::check_view(width, construction, layer, bitonic, periodic);
     let row = sheets::view(width, construction, layer, bitonic, periodic);
-    let values = [0; 0];
-    console_answers::put_bytes(text, refusal, &values, row)
+    console_answers::put_bytes(text, order::number_in(checked), &[], row)
 }
 
 // `view W C LAYER LEN LEN`

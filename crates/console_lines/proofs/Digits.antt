@@ -1,17 +1,44 @@
--- Laws of digits and decimal numbers. In order: while digits are passed, while they spell a number, what is read of a text that
--- is no number, and of one that is. Assumes nothing.
-use Prim.Native.Nat.{ℕ, suc, ◌+◌, ◌*◌, ◌^◌, ◌≤◌, ◌<◌}
-use native.Mathlib.Nat.{pow-succ', pow-le-pow_right}
+-- Laws of digits and decimal numbers. In order: what is read of a byte; while digits are passed; while they spell a number; what is
+-- read of a text. Assumes nothing.
+use Prim.Native.Nat.{ℕ, suc, min, ◌+◌, ◌*◌, ◌^◌, ◌≤◌, ◌<◌}
+use native.Mathlib.Nat.{pow-succ'}
 use native.Mathlib.Numerals.{add-one}
 use native.Mathlib.Omega.{arith}
-use mathlib.Core.Path.{◌≡◌, sym, ◌∙◌}
+use mathlib.Core.Logic.{◌⊎◌, ⊎_elim}
+use mathlib.Core.Path.{◌≡◌, refl, ◌∙◌}
 use mathlib.Core.Bool.{Bool, true, false, ◌&&◌}
 use mathlib.Core.List.{List}
-use lib.Dec.{ltb}
+use lib.Dec.{ltb, leb}
 use lib.ListN.{length, drop, get_or, drop_of_length-le}
 use lib.Seq.{drop-cons}
-use borrow.Author.Tests.{lt-ltb, le-ltb, le-leb, lt-leb}
-use Rattle.console_lines.specs.Digits.{digit_of, all_below, spelt_from, is_number, DigitIs, NoNumber, NumberIs}
+use borrow.Author.Tests.{lt-ltb, le-ltb, le-leb, lt-leb, ltb-true, leb-true}
+use Rattle.std.proofs.Common.{Some, None, IfSome}
+use Rattle.std.specs.Bool.{then_some}
+use Rattle.console_lines.specs.Digits.{digit_of, digit_in, all_below, spelt_from, is_number, NumberIs}
+
+-- ---- what is given where a test holds
+
+pub some_tells : (b : Bool) {x y : ℕ} → then_some b x ≡ Some y → (b ≡ true) × (x ≡ y)
+some_tells true e = (refl, cc)
+some_tells false e = cc
+
+none_tells : (b : Bool) (x : ℕ) → then_some b x ≡ None → b ≡ false
+none_tells true x e = cc
+none_tells false x e = refl
+
+most_in : (b : Bool) (x most : ℕ) → leb x most ≡ b → IfSome (then_some b x) (λ n. n ≤ most)
+most_in true x most e = leb-true x most e
+most_in false x most e = tt
+
+-- ---- a digit
+
+pub digit_some : (base glyph : ℕ) {d : ℕ} → digit_in base glyph ≡ Some d → (digit_of glyph ≡ d) × (d < min base 16)
+digit_some base glyph e =
+    let some = some_tells (ltb (digit_of glyph) (min base 16)) e in
+    (some.1, omega (arith, some.1, ltb-true _ _ some.0))
+
+pub digit_none : (base glyph : ℕ) → digit_in base glyph ≡ None → ltb (digit_of glyph) (min base 16) ≡ false
+digit_none base glyph e = none_tells (ltb (digit_of glyph) (min base 16)) _ e
 
 -- ---- digits below a base
 
@@ -25,19 +52,15 @@ unfolding all_below
 below_more base text i more = rw (drop-cons text i 0 more)
 
 module _ {base : ℕ} {text : List ℕ} {i : ℕ} (passed : DigitsTo base text i) where
-  module _ {d : ℕ} (more : i < length text) (digit : DigitIs (get_or text i 0) d) where
-    pub digits_more : d < base → DigitsTo base text (i + 1)
-    digits_more is_digit =
-        let below : digit_of (get_or text i 0) < base = omega (arith, digit.is) in
-        record {
-          within = omega arith;
-          so_far = rw add-one (passed.so_far ∙ below_more base text i more ∙ rw (lt-ltb _ _ below));
-        }
+  pub digits_more : i < length text → digit_of (get_or text i 0) < base → DigitsTo base text (i + 1)
+  digits_more more below =
+      record {
+        within = omega arith;
+        so_far = rw add-one (passed.so_far ∙ below_more base text i more ∙ rw (lt-ltb _ _ below));
+      }
 
-    pub digits_other : base ≤ d → all_below base text ≡ false
-    digits_other no_digit =
-        let above : base ≤ digit_of (get_or text i 0) = omega (arith, digit.is) in
-        passed.so_far ∙ below_more base text i more ∙ rw (le-ltb _ _ above)
+  pub digits_other : i < length text → ltb (digit_of (get_or text i 0)) base ≡ false → all_below base text ≡ false
+  digits_other more above = passed.so_far ∙ below_more base text i more ∙ rw above
 
   pub digits_all : length text ≤ i → all_below base text ≡ true
   unfolding all_below
@@ -56,17 +79,11 @@ unfolding spelt_from
 spelt_more text value i more = rw (drop-cons text i 0 more)
 
 module _ {text : List ℕ} {value i : ℕ} (passed : Passed text value i) where
-  -- ten digits spell less than ten to the tenth
-  pub passed_fits : i ≤ 10 → value < 10_000_000_000
-  passed_fits few =
-      let most : 10 ^ i ≤ 10 ^ 10 = pow-le-pow_right (omega arith) few in
-      omega (arith, passed.small)
-
-  pub passed_more : {d : ℕ} → i < length text → DigitIs (get_or text i 0) d → d ≤ 9 → Passed text (value * 10 + d) (i + 1)
-  passed_more more digit is_digit =
+  pub passed_more : {d : ℕ} → i < length text → digit_of (get_or text i 0) ≡ d → d < 10 → Passed text (value * 10 + d) (i + 1)
+  passed_more more is below =
       record {
-        digits = digits_more passed.digits more digit (omega arith);
-        spells = rw (add-one, digit.is) (passed.spells ∙ spelt_more text value i more);
+        digits = digits_more passed.digits more (omega (arith, is));
+        spells = rw (add-one, ← is) (passed.spells ∙ spelt_more text value i more);
         small = rw (add-one, pow-succ') (omega (arith, passed.small));
       }
 
@@ -74,49 +91,31 @@ module _ {text : List ℕ} {value i : ℕ} (passed : Passed text value i) where
   unfolding spelt_from
   passed_spells last = passed.spells ∙ rw (drop_of_length-le text last)
 
--- what is read of a text that is no number
-no_number : (text : List ℕ) (most : ℕ) {ok : Bool} {value : ℕ} → NoNumber ok value → is_number text most ≡ false → NumberIs text most ok value
-no_number text most none refused =
-    record {
-      is_one = none.refused ∙ sym refused;
-      is = rw refused none.nothing;
-      within = omega (arith, none.nothing);
-    }
+-- ---- what is read of a text
 
-module _ {text : List ℕ} {most : ℕ} {ok : Bool} {value : ℕ} (none : NoNumber ok value) where
-  pub read_empty : length text ≡ 0 → NumberIs text most ok value
+module _ {text : List ℕ} {most : ℕ} where
+  read_none : is_number text most ≡ false → NumberIs text most None
+  read_none refused = record { is = rw refused; within = tt }
+
+  pub read_outside : length text ≡ 0 ⊎ 10 < length text → NumberIs text most None
   unfolding is_number
-  read_empty empty = no_number text most none (simp (le-ltb 0 (length text) (omega arith)))
+  read_outside outside =
+      ⊎_elim
+      (λ none. read_none (simp (le-ltb 0 (length text) (omega arith))))
+      (λ long. read_none (simp (lt-ltb 0 (length text) (omega arith), lt-leb (length text) 10 long)))
+      outside
 
-  pub read_long : 10 < length text → NumberIs text most ok value
-  unfolding is_number
-  read_long long =
-      no_number text most none (simp (lt-ltb 0 (length text) (omega arith), lt-leb (length text) 10 long))
-
-module _ {text : List ℕ} {most : ℕ} (some : 0 < length text) (few : length text ≤ 10) where
-  pub read_other : {ok : Bool} {value : ℕ} → NoNumber ok value → all_below 10 text ≡ false → NumberIs text most ok value
-  unfolding is_number
-  read_other none other =
-      no_number text most none (simp (lt-ltb 0 (length text) some, le-leb (length text) 10 few, other))
-
-  module _ {value i : ℕ} (passed : Passed text value i) (last : length text ≤ i) where
-    pub read_above : {ok : Bool} {refused : ℕ} → NoNumber ok refused → most < value → NumberIs text most ok refused
+  module _ (some : 0 < length text) (few : length text ≤ 10) where
+    pub read_other : all_below 10 text ≡ false → NumberIs text most None
     unfolding is_number
-    read_above none above =
-        no_number text most none
-        (simp
-        (lt-ltb 0 (length text) some, le-leb (length text) 10 few, digits_all passed.digits last, passed_spells passed last, lt-leb value most above))
+    read_other other = read_none (simp (lt-ltb 0 (length text) some, le-leb (length text) 10 few, other))
 
-    is_number_lem : value ≤ most → is_number text most ≡ true
+    pub read_number : {value i : ℕ} → Passed text value i → length text ≤ i → NumberIs text most (then_some (leb value most) value)
     unfolding is_number
-    is_number_lem within =
-        simp
-        (lt-ltb 0 (length text) some, le-leb (length text) 10 few, digits_all passed.digits last, passed_spells passed last, le-leb value most within)
-
-    pub read_number : value ≤ most → NumberIs text most true value
-    read_number within =
+    read_number {value} passed last =
         record {
-          is_one = sym (is_number_lem within);
-          is = rw (is_number_lem within, passed_spells passed last);
-          within = within;
+          is =
+              simp
+              (lt-ltb 0 (length text) some, le-leb (length text) 10 few, digits_all passed.digits last, passed_spells passed last);
+          within = most_in _ value most refl;
         }

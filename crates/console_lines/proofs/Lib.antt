@@ -1,3 +1,2 @@
-mod Marked
 mod Digits
 mod Hex

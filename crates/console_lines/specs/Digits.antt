@@ -1,5 +1,6 @@
 -- The number that a text spells in decimal. Definitions only. Assumes nothing.
-use Rattle.std.specs.Prelude.{ℕ, ◌+◌, ◌-◌, ◌*◌, ◌≤◌, ◌≡◌, Bool, true, false, cond, ◌&&◌, List, [], ◌∷◌, ltb, leb, length}
+use Rattle.std.specs.Prelude.{ℕ, ◌+◌, ◌-◌, ◌*◌, ◌≤◌, ◌≡◌, Bool, true, cond, ◌&&◌, List, [], ◌∷◌, ltb, leb, min, length, Option, IfSome}
+use Rattle.std.specs.Bool.{then_some}
 
 -- the value of a hex digit, and 16 where the byte is none; letters are lower case
 unfoldable pub digit_of : ℕ → ℕ
@@ -8,6 +9,10 @@ digit_of glyph =
     (ltb glyph 48)
     16
     (cond (leb glyph 57) (glyph - 48) (cond (ltb glyph 97) 16 (cond (leb glyph 102) (glyph - 97 + 10) 16)))
+
+-- the value of a byte that is a digit below the base, up to 16
+abbrev pub digit_in : ℕ → ℕ → Option ℕ
+digit_in base glyph = then_some (ltb (digit_of glyph) (min base 16)) (digit_of glyph)
 
 -- is each byte a digit below the base?
 unfoldable pub all_below : ℕ → List ℕ → Bool
@@ -24,22 +29,15 @@ unfoldable pub is_number : List ℕ → ℕ → Bool
 is_number text most =
     ltb 0 (length text) && leb (length text) 10 && all_below 10 text && leb (spelt_from 0 text) most
 
--- the number that the text is; 0 where it is none
+-- the number that the text is, where it is one
+abbrev pub decimal_in : List ℕ → ℕ → Option ℕ
+decimal_in text most = then_some (is_number text most) (spelt_from 0 text)
+
+-- the same; 0 where it is none
 abbrev pub number_in : List ℕ → ℕ → ℕ
 number_in text most = cond (is_number text most) (spelt_from 0 text) 0
 
--- a digit as it is read
-pub record DigitIs (glyph value : ℕ) : Type 0 where
-  pub is : value ≡ digit_of glyph
-  pub most : value ≤ 16
-
--- what is read where there is no number
-pub record NoNumber (ok : Bool) (value : ℕ) : Type 0 where
-  pub refused : ok ≡ false
-  pub nothing : value ≡ 0
-
 -- a number as it is read
-pub record NumberIs (text : List ℕ) (most : ℕ) (ok : Bool) (value : ℕ) : Type 0 where
-  pub is_one : ok ≡ is_number text most
-  pub is : value ≡ number_in text most
-  pub within : value ≤ most
+pub record NumberIs (text : List ℕ) (most : ℕ) (read : Option ℕ) : Type 0 where
+  pub is : read ≡ decimal_in text most
+  pub within : IfSome read (λ n. n ≤ most)

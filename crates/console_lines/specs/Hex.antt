@@ -1,15 +1,14 @@
 -- The bytes that a text spells in hex, a pair of digits each. Definitions only. Assumes nothing.
-use Rattle.std.specs.Prelude.{ℕ, ◌+◌, ◌*◌, ◌/◌, ◌%◌, ◌≤◌, ◌<◌, ◌≡◌, Bool, true, ◌&&◌, List, [], ◌∷◌, ltb, eqb, length, get_or}
+use Rattle.std.specs.Prelude.{ℕ, ◌+◌, ◌*◌, ◌/◌, ◌%◌, ◌≤◌, ◌<◌, ◌≡◌, Bool, ◌&&◌, ◌||◌, List, [], ◌∷◌, ltb, eqb, length, get_or, bytes_eq}
 use Rattle.console_lines.specs.Digits.{digit_of, all_below}
 
 -- is the text pairs of hex digits, one or more?
 unfoldable pub is_pairs : List ℕ → Bool
 is_pairs text = (ltb 0 (length text) && eqb (length text % 2) 0) && all_below 16 text
 
--- the text is such pairs, or `-` for no bytes
-pub record HexIs (text : List ℕ) (is : Bool) : Type 0 where
-  pub dash : text ≡ 45 ∷ [] → is ≡ true
-  pub pairs : (text ≡ 45 ∷ [] → ⊥) → is ≡ is_pairs text
+-- is it such pairs, or `-` for no bytes?
+abbrev pub is_hex : List ℕ → Bool
+is_hex text = bytes_eq text (45 ∷ []) || is_pairs text
 
 -- byte k of what the text spells; what is no digit counts as 0
 unfoldable pub hex_byte : List ℕ → ℕ → ℕ

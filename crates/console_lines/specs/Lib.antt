@@ -3,4 +3,3 @@ pub mod Marked
 pub mod Digits
 pub mod Hex
 pub mod Words
-pub mod Bounds

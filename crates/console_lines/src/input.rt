@@ -1,9 +1,7 @@
 // Lines from a reader, by way of a lent buffer. A line that fills the buffer has no end in it: it is too long, and its
 // bytes are dropped up to its end. The last line need not end in a line feed.
-ghost use Rattle.std.specs.Prelude.{◌≡◌, IfOk, OnErr, length};
-ghost use Rattle.console_lines.specs.Bounds.{Held};
+ghost use Rattle.std.specs.Prelude.{◌≡◌, ◌≤◌, IfOk, IfSome, OnErr, length};
 
-use crate::parts;
 use std::io;
 use std::io::Read;
 
@@ -18,13 +16,13 @@ pub struct Lines {
     pub too_long: bool,
     // the input has ended
     pub at_end: bool,
-    // no line is left
-    pub done: bool,
+    ghost starts: { from ≤ end },
+    ghost ends: { end ≤ to },
 }
 
 // Before the first line.
 pub fn start() -> Lines
-    ensures { Held result.from result.end result.to 0 }
+    ensures { result.to ≡ 0 }
 {
     Lines {
         from: 0,
@@ -32,46 +30,26 @@ pub fn start() -> Lines
         to: 0,
         too_long: false,
         at_end: false,
-        done: false,
-    }
-}
-
-// The bytes from a place on move to the front.
-fn move_down(input: &mut [u8], from: usize, to: usize)
-    requires { Held 0 from to (length input.old) }
-{
-    let count = to - from;
-    let mut i = 0;
-    while i < count {
-        input[i] = input[from + i];
-        i += 1;
     }
 }
 
 // The line that is sought moves to the front of the buffer.
-fn to_front(input: &mut [u8], lines: Lines) -> Lines
-    requires { Held lines.from lines.end lines.to (length input.old) }
-    ensures { Held result.from result.end result.to (length input.new) }
+fn to_front(input: &mut [u8], mut lines: Lines) -> Lines
+    requires { lines.to ≤ length input.old }
+    ensures { result.to ≤ length input.new }
 {
     let from = lines.from;
-    if from == 0 {
-        return lines;
-    }
-    move_down(input, from, lines.to);
-    Lines {
-        from: 0,
-        end: lines.end - from,
-        to: lines.to - from,
-        too_long: lines.too_long,
-        at_end: lines.at_end,
-        done: lines.done,
-    }
+    input.copy_within(from..lines.to, 0);
+    lines.from = 0;
+    lines.end -= from;
+    lines.to -= from;
+    lines
 }
 
 // A line that fills the buffer is dropped, and known to be too long.
 fn with_room(mut lines: Lines, room: usize) -> Lines
-    requires { Held lines.from lines.end lines.to room }
-    ensures { Held result.from result.end result.to room }
+    requires { lines.to ≤ room }
+    ensures { result.to ≤ room }
 {
     if lines.to == room {
         lines.from = 0;
@@ -84,21 +62,20 @@ fn with_room(mut lines: Lines, room: usize) -> Lines
 
 // Reads on, behind what is held.
 fn read_on<R: Read>(reader: &mut R, input: &mut [u8], mut lines: Lines) -> io::Result<Lines>
-    requires { Held lines.from lines.end lines.to (length input.old) }
-    ensures held { IfOk result (λ read. Held read.from read.end read.to (length input.new)) }
+    requires { lines.to ≤ length input.old }
+    ensures held { IfOk result (λ read. read.to ≤ length input.new) }
     ensures err { OnErr result (length input.new ≡ length input.old) }
 {
-    let to = lines.to;
-    let count = streams::read_behind(reader, input, to)?;
-    lines.to = to + count;
+    let count = streams::read_behind(reader, input, lines.to)?;
+    lines.to += count;
     lines.at_end = count == 0;
     Ok(lines)
 }
 
 // More of the line that is sought.
 fn more<R: Read>(reader: &mut R, input: &mut [u8], lines: Lines) -> io::Result<Lines>
-    requires { Held lines.from lines.end lines.to (length input.old) }
-    ensures held { IfOk result (λ read. Held read.from read.end read.to (length input.new)) }
+    requires { lines.to ≤ length input.old }
+    ensures held { IfOk result (λ read. read.to ≤ length input.new) }
     ensures err { OnErr result (length input.new ≡ length input.old) }
 {
     let moved = to_front(input, lines);
@@ -108,24 +85,20 @@ fn more<R: Read>(reader: &mut R, input: &mut [u8], lines: Lines) -> io::Result<L
 
 // Seeks the end of the line among what is held: its line feed, or the end of what is held.
 fn seek(input: &[u8], mut lines: Lines) -> Lines
-    requires { Held lines.from lines.end lines.to (length input.now) }
-    ensures { Held result.from result.end result.to (length input.now) }
+    requires { lines.to ≤ length input.now }
+    ensures { result.to ≡ lines.to }
 {
-    let to = lines.to;
-    let from = lines.end;
-    let end = parts::end_of(&input[0..to], from, 10);
-    lines.end = end;
+    let held = &input[lines.end..lines.to];
+    lines.end += held.iter().take_while(|glyph| **glyph != b'\n').count();
     lines
 }
 
 // Behind a line and its line feed.
-fn behind(mut lines: Lines, room: usize) -> Lines
-    requires { Held lines.from lines.end lines.to room }
-    ensures { Held result.from result.end result.to room }
+fn behind(mut lines: Lines) -> Lines
+    ensures { result.to ≡ lines.to }
 {
-    let end = lines.end;
-    if end < lines.to {
-        lines.end = end + 1;
+    if lines.end < lines.to {
+        lines.end += 1;
     }
     lines.from = lines.end;
     lines.too_long = false;
@@ -133,34 +106,33 @@ fn behind(mut lines: Lines, room: usize) -> Lines
 }
 
 // What stands at the end of the input: a last line, or nothing.
-fn last(mut lines: Lines, room: usize) -> Lines
-    requires { Held lines.from lines.end lines.to room }
-    ensures { Held result.from result.end result.to room }
+fn last(lines: Lines) -> Option<Lines>
+    ensures { IfSome result (λ line. line.to ≡ lines.to) }
 {
-    lines.done = (lines.from == lines.to) & !lines.too_long;
-    lines
+    (lines.from < lines.to || lines.too_long).then_some(lines)
 }
 
-// The next line. A proved loop has to end, and nothing says that the input does: so its turns count down, from a number that
-// no input uses up. An error is the reader's own: the bytes of the buffer are not told then.
-pub fn next_line<R: Read>(reader: &mut R, input: &mut [u8], before: Lines) -> io::Result<Lines>
-    requires { Held before.from before.end before.to (length input.old) }
-    ensures held { IfOk result (λ next. Held next.from next.end next.to (length input.new)) }
+// The next line, or that none is left. A proved loop has to end, and nothing says that the input does: so its turns are counted, up to
+// a number that no input uses up. An error is the reader's own: the bytes of the buffer are not told then.
+pub fn next_line<R: Read>(
+    reader: &mut R,
+    input: &mut [u8],
+    before: Lines,
+) -> io::Result<Option<Lines>>
+    requires { before.to ≤ length input.old }
+    ensures held { IfOk result (λ next. IfSome next (λ line. line.to ≤ length input.new)) }
     ensures err { OnErr result (length input.new ≡ length input.old) }
 {
-    let mut lines = behind(before, input.len());
-    let mut turns = u64::MAX;
-    while turns > 0 {
+    let mut lines = behind(before);
+    for _ in 0..u64::MAX {
         lines = seek(input, lines);
         if lines.end < lines.to {
-            return Ok(lines);
+            return Ok(Some(lines));
         }
         if lines.at_end {
-            return Ok(last(lines, input.len()));
+            return Ok(last(lines));
         }
         lines = more(reader, input, lines)?;
-        turns -= 1;
     }
-    lines.done = true;
-    Ok(lines)
+    Ok(None)
 }

@@ -1,76 +1,18 @@
 // A text in parts that a mark stands between: the words of a line, the entries of a list, the numbers of an entry. A text
 // with no mark is one part, and a part may be empty.
-ghost use Rattle.std.specs.Prelude.{◌≡◌, ◌≤◌, length, true};
-ghost use Rattle.console_lines.specs.Marked.{PartEnds, PartNext, PartStarts, PartsCounted, part_at};
-
-// Where the part that starts at `from` ends: at the next mark, or at the end of the text.
-pub fn end_of(text: &[u8], from: usize, mark: u8) -> usize
-    requires { from ≤ length text.now }
-    ensures { PartEnds mark text.now from result }
-{
-    let mut at = from;
-    while at < text.len() {
-        if text[at] == mark {
-            return at;
-        }
-        at += 1;
-    }
-    at
-}
-
-// Where the part behind the one that starts at `from` starts; the end of the text where there is none.
-fn next_of(text: &[u8], from: usize, mark: u8) -> usize
-    requires { from ≤ length text.now }
-    ensures { PartNext mark text.now from result }
-{
-    let end = end_of(text, from, mark);
-    if end < text.len() {
-        return end + 1;
-    }
-    end
-}
+ghost use Rattle.std.specs.Prelude.{◌≡◌};
+ghost use Rattle.console_lines.specs.Marked.{PartsCounted, part_at};
 
 // How many parts the text has.
 pub fn count(text: &[u8], mark: u8) -> usize
     ensures { PartsCounted mark text.now result }
 {
-    let mut marks = 0;
-    let mut i = 0;
-    while i < text.len() {
-        if text[i] == mark {
-            marks += 1;
-        }
-        i += 1;
-    }
-    marks + 1
-}
-
-// Where part k starts, from 0; the end of the text where there are fewer.
-fn start_of(text: &[u8], mark: u8, k: usize) -> usize
-    ensures { PartStarts mark text.now k result }
-{
-    let mut at = 0;
-    let mut i = 0;
-    while i < k {
-        at = next_of(text, at, mark);
-        i += 1;
-    }
-    at
+    text.split(|glyph| *glyph == mark).count()
 }
 
 // Part k, from 0; nothing where there are fewer.
 pub fn part(text: &[u8], mark: u8, k: usize) -> &[u8]
     ensures { result.now ≡ part_at mark text.now k }
 {
-    let from = start_of(text, mark, k);
-    let end = end_of(text, from, mark);
-    &text[from..end]
-}
-
-// Are two texts the same?
-pub fn same(a: &[u8], b: &[u8]) -> bool
-    ensures alike { result ≡ true → a.now ≡ b.now }
-    ensures known { a.now ≡ b.now → result ≡ true }
-{
-    a == b
+    text.split(|glyph| *glyph == mark).nth(k).unwrap_or(&[])
 }

@@ -22,8 +22,7 @@ pub fn word(line: &[u8], k: usize) -> &[u8]
 fn number(line: &[u8], k: usize, most: u64) -> u64
     ensures { WordIs line.now k most result }
 {
-    let read = numbers::decimal(word(line, k), most);
-    read.value
+    numbers::decimal(word(line, k), most).unwrap_or(0)
 }
 
 // A number of 16 bits.

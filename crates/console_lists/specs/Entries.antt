@@ -1,7 +1,10 @@
 -- An entry of a list of a record, as text. Definitions only. Assumes nothing.
-use Rattle.std.specs.Prelude.{ℕ, ◌+◌, ◌≤◌, ◌≡◌, Bool, cond, ◌&&◌, List, ltb, leb, eqb}
+use Rattle.std.specs.Prelude.{ℕ, ◌+◌, ◌≤◌, ◌<◌, ◌≡◌, Bool, ◌&&◌, List, ltb, leb, eqb, Option, IfSome}
+use Rattle.std.specs.Bool.{then_some}
 use Rattle.console_lines.specs.Digits.{is_number, number_in}
 use Rattle.console_lines.specs.Marked.{part_at, part_count}
+use Rattle.console_lists.specs.declared.Entries.{Entries}
+use Rattle.console_lists.specs.declared.Entries.TheVariants.{Counts, Toggles, Places, Dials}
 
 -- the index that a text spells, a number of 16 bits; 0 where it is none
 abbrev pub index_in : List ℕ → ℕ
@@ -16,11 +19,11 @@ unfoldable pub is_keyed : List ℕ → ℕ → ℕ → Bool
 is_keyed entry least size = eqb (part_count 61 entry) 2 && is_index (part_at 61 entry 0) least size
 
 -- `i=n`: exit i has dealt n numbers
-unfoldable pub is_count : List ℕ → ℕ → Bool
+abbrev pub is_count : List ℕ → ℕ → Bool
 is_count entry least = is_keyed entry least 64 && is_number (part_at 61 entry 1) 4294967295
 
 -- `i`: toggle i is down
-unfoldable pub is_toggle : List ℕ → ℕ → Bool
+abbrev pub is_toggle : List ℕ → ℕ → Bool
 is_toggle entry least = is_index entry least 1152
 
 -- three numbers with `/` between them, each with its most
@@ -33,7 +36,7 @@ abbrev pub is_seat : List ℕ → Bool
 is_seat text = are_three 1 65535 65535 text
 
 -- `t=INSIDE/LEVEL/WIRE`: where token t is
-unfoldable pub is_place : List ℕ → ℕ → Bool
+abbrev pub is_place : List ℕ → ℕ → Bool
 is_place entry least = is_keyed entry least 256 && is_seat (part_at 61 entry 1)
 
 -- `NOW/LAST/SUM`
@@ -41,16 +44,15 @@ abbrev pub is_reading : List ℕ → Bool
 is_reading text = are_three 65535 65535 4294967295 text
 
 -- `i=NOW/LAST/SUM`: the dial of exit i, its last reading and the sum of its yields
-unfoldable pub is_dial : List ℕ → ℕ → Bool
+abbrev pub is_dial : List ℕ → ℕ → Bool
 is_dial entry least = is_keyed entry least 64 && is_reading (part_at 61 entry 1)
 
--- an entry of exit counts (c), of toggles (t), of dials (d) or, for any other letter, of places
-unfoldable pub is_entry : ℕ → List ℕ → ℕ → Bool
-is_entry list entry least =
-    cond
-    (eqb list 99)
-    (is_count entry least)
-    (cond (eqb list 116) (is_toggle entry least) (cond (eqb list 100) (is_dial entry least) (is_place entry least)))
+-- an entry of each of the lists
+abbrev pub is_entry : Entries → List ℕ → ℕ → Bool
+is_entry Counts entry least = is_count entry least
+is_entry Toggles entry least = is_toggle entry least
+is_entry Places entry least = is_place entry least
+is_entry Dials entry least = is_dial entry least
 
 -- the least index of the entry behind this one, whose own index is in front of `=`, or all of it
 abbrev pub next_of : List ℕ → ℕ
@@ -58,13 +60,13 @@ next_of entry = index_in (part_at 61 entry 0) + 1
 
 -- ---- what is read
 
--- an index as it is read; the size where there is none
-pub record IndexIs (is : Bool) (index size at : ℕ) : Type 0 where
-  pub found : is ≡ ltb at size
-  pub at_is : at ≡ cond is index size
-  pub within : at ≤ size
+-- an index as it is read
+pub record IndexIs (is : Bool) (index size : ℕ) (read : Option ℕ) : Type 0 where
+  pub read_is : read ≡ then_some is index
+  pub within : IfSome read (λ at. at < size)
 
--- an entry as it is read: the least index of the next one, or 0 where this is none; what has entered stays
-pub record EntryRead (is : Bool) (least next before after : ℕ) : Type 0 where
-  pub next_is : next ≡ cond is least 0
-  pub entered : after ≡ before
+-- three numbers as they are read
+pub record Three (a b c : ℕ) (read : ℕ × ℕ × ℕ) : Type 0 where
+  pub first : read.0 ≤ a
+  pub second : read.1 ≤ b
+  pub third : read.2 ≤ c

@@ -1,205 +1,164 @@
 // The lists of a record, from text: entries with commas between them, their indexes within the record and strictly rising; `-` is
-// no entry. A list is exit counts (c), toggles that are down (t) or places of tokens (p), and these name a board; or dials (d).
+// no entry.
 #![tactic(auto)]
 
-ghost use Rattle.std.specs.Prelude.{◌≡◌, ◌+◌, false};
-ghost use Rattle.console_lines.specs.Marked.{part_at};
+ghost use Rattle.std.specs.Prelude.{◌≡◌, is_some, IfSome};
+ghost use Rattle.std.specs.Bool.{then_some};
+ghost use Rattle.console_lines.specs.Marked.{parts_of, part_at};
 ghost use Rattle.console_lines.specs.Words.{long_at};
-ghost use Rattle.console_lists.specs.Entries.{index_in, is_index, is_keyed, is_count, is_toggle, is_seat, is_place, is_reading, is_dial, is_entry, next_of, IndexIs, EntryRead};
-ghost use Rattle.console_lists.specs.Lists.{is_list, ListRead};
+ghost use Rattle.console_lists.specs.Entries.{index_in, is_index, is_keyed, is_count, is_toggle, are_three, is_seat, is_place, is_reading, is_dial, is_entry, next_of, IndexIs, Three};
+ghost use Rattle.console_lists.specs.Lists.{are_entries, is_list};
 
-use board::{Board, Place};
+use board::{Board, CELLS, EXITS, Place, TOKENS};
 use console_lines::{numbers, parts, words};
 
-// The board with what a list names; `ok` says whether the text was such a list.
+// What a list has entries of: the counts of exits, toggles that are down and places of tokens, which name a board; or dials.
 #[derive(Clone, Copy)]
-pub struct Listed {
-    pub ok: bool,
-    pub board: Board,
+pub enum Entries {
+    Counts,
+    Toggles,
+    Places,
+    Dials,
 }
 
-// The board with an entry, and the least index of the next one; 0 where the entry is refused.
-#[derive(Clone, Copy)]
-struct Stored {
-    next: usize,
-    board: Board,
-}
+// ---- an entry; each gives the least index of the entry behind it
 
-fn refused(board: Board) -> Stored
-    ensures { EntryRead false 0 result.next board.entered result.board.entered }
-{
-    Stored { next: 0, board }
-}
-
-// The index that a text spells, from `least` on; `size` where it spells none below that.
-pub fn index(text: &[u8], least: usize, size: usize) -> usize
+// The index that a text spells, from `least` on and below the size.
+#[tactic(auto, unfolding(crate::specs::Entries::is_index))]
+pub fn index(text: &[u8], least: usize, size: usize) -> Option<usize>
     ensures { IndexIs (is_index text.now least size) (index_in text.now) size result }
 {
-    let read = numbers::decimal(text, 65_535);
-    let at = read.value as usize;
-    if read.ok & (least <= at) & (at < size) {
-        return at;
-    }
-    size
+    let at = numbers::decimal(text, 65_535)? as usize;
+    ((least <= at) & (at < size)).then_some(at)
 }
 
 // The index in front of `=`, where one other part is behind it.
-fn key(entry: &[u8], least: usize, size: usize) -> usize
+#[tactic(auto, unfolding(crate::specs::Entries::is_keyed))]
+fn key(entry: &[u8], least: usize, size: usize) -> Option<usize>
     ensures { IndexIs (is_keyed entry.now least size) (index_in (part_at 61 entry.now 0)) size result }
 {
     if parts::count(entry, b'=') != 2 {
-        return size;
+        return None;
     }
     index(parts::part(entry, b'=', 0), least, size)
 }
 
 // `i=n`
-fn count(entry: &[u8], least: usize, mut board: Board) -> Stored
-    ensures { EntryRead (is_count entry.now least) (next_of entry.now) result.next board.entered result.board.entered }
+fn count(entry: &[u8], least: usize, counts: &mut [u32; EXITS]) -> Option<usize>
+    ensures { result ≡ then_some (is_count entry.now least) (next_of entry.now) }
 {
-    let at = key(entry, least, 64);
-    let dealt = numbers::decimal(parts::part(entry, b'=', 1), 4_294_967_295);
-    if at == 64 {
-        return refused(board);
-    }
-    if !dealt.ok {
-        return refused(board);
-    }
-    board.counts[at] = dealt.value as u32;
-    let next = at + 1;
-    Stored { next, board }
+    let at = key(entry, least, EXITS)?;
+    let dealt = numbers::decimal(parts::part(entry, b'=', 1), 4_294_967_295)?;
+    counts[at] = dealt as u32;
+    Some(at + 1)
 }
 
 // `i`
-fn toggle(entry: &[u8], least: usize, mut board: Board) -> Stored
-    ensures { EntryRead (is_toggle entry.now least) (next_of entry.now) result.next board.entered result.board.entered }
+fn toggle(entry: &[u8], least: usize, toggles: &mut [bool; CELLS]) -> Option<usize>
+    ensures { result ≡ then_some (is_toggle entry.now least) (next_of entry.now) }
 {
-    let at = index(entry, least, 1152);
-    if at == 1152 {
-        return refused(board);
-    }
-    board.toggles[at] = true;
-    let next = at + 1;
-    Stored { next, board }
+    let at = index(entry, least, CELLS)?;
+    toggles[at] = true;
+    Some(at + 1)
 }
 
-// The place that a text spells as `INSIDE/LEVEL/WIRE`; `ok` says whether it does.
-#[derive(Clone, Copy)]
-struct Seated {
-    ok: bool,
-    place: Place,
+// Three numbers with `/` between them, each with its most.
+#[tactic(auto, unfolding(crate::specs::Entries::are_three))]
+fn three(text: &[u8], a: u64, b: u64, c: u64) -> Option<(u64, u64, u64)>
+    ensures is_one { is_some result ≡ are_three a b c text.now }
+    ensures within { IfSome result (Three a b c) }
+{
+    if parts::count(text, b'/') != 3 {
+        return None;
+    }
+    let first = numbers::decimal(parts::part(text, b'/', 0), a)?;
+    let second = numbers::decimal(parts::part(text, b'/', 1), b)?;
+    let third = numbers::decimal(parts::part(text, b'/', 2), c)?;
+    Some((first, second, third))
 }
 
-fn seat(text: &[u8]) -> Seated
-    ensures { result.ok ≡ is_seat text.now }
+// The place that a text spells as `INSIDE/LEVEL/WIRE`.
+fn seat(text: &[u8]) -> Option<Place>
+    ensures { is_some result ≡ is_seat text.now }
 {
-    let inside = numbers::decimal(parts::part(text, b'/', 0), 1);
-    let level = numbers::decimal(parts::part(text, b'/', 1), 65_535);
-    let wire = numbers::decimal(parts::part(text, b'/', 2), 65_535);
-    Seated {
-        ok: (parts::count(text, b'/') == 3) & inside.ok & level.ok & wire.ok,
-        place: Place {
-            inside: inside.value == 1,
-            level: level.value as u16,
-            wire: wire.value as u16,
-        },
-    }
+    let (inside, level, wire) = three(text, 1, 65_535, 65_535)?;
+    Some(Place {
+        inside: inside == 1,
+        level: level as u16,
+        wire: wire as u16,
+    })
 }
 
 // `t=INSIDE/LEVEL/WIRE`
-fn place(entry: &[u8], least: usize, mut board: Board) -> Stored
-    ensures { EntryRead (is_place entry.now least) (next_of entry.now) result.next board.entered result.board.entered }
+fn place(entry: &[u8], least: usize, places: &mut [Place; TOKENS]) -> Option<usize>
+    ensures { result ≡ then_some (is_place entry.now least) (next_of entry.now) }
 {
-    let at = key(entry, least, 256);
-    let seat = seat(parts::part(entry, b'=', 1));
-    if at == 256 {
-        return refused(board);
-    }
-    if !seat.ok {
-        return refused(board);
-    }
-    let place = seat.place;
-    board.places[at] = place;
-    let next = at + 1;
-    Stored { next, board }
-}
-
-// Is the text `NOW/LAST/SUM`?
-fn is_reading(text: &[u8]) -> bool
-    ensures { result ≡ is_reading text.now }
-{
-    let now = numbers::is_decimal(parts::part(text, b'/', 0), 65_535);
-    let last = numbers::is_decimal(parts::part(text, b'/', 1), 65_535);
-    let sum = numbers::is_decimal(parts::part(text, b'/', 2), 4_294_967_295);
-    (parts::count(text, b'/') == 3) & now & last & sum
+    let at = key(entry, least, TOKENS)?;
+    places[at] = seat(parts::part(entry, b'=', 1))?;
+    Some(at + 1)
 }
 
 // `i=NOW/LAST/SUM`: judged alone, for a board has no dials.
-fn dial(entry: &[u8], least: usize, board: Board) -> Stored
-    ensures { EntryRead (is_dial entry.now least) (next_of entry.now) result.next board.entered result.board.entered }
+fn dial(entry: &[u8], least: usize) -> Option<usize>
+    ensures { result ≡ then_some (is_dial entry.now least) (next_of entry.now) }
 {
-    let at = key(entry, least, 64);
-    let good = is_reading(parts::part(entry, b'=', 1));
-    if at == 64 {
-        return refused(board);
-    }
-    if !good {
-        return refused(board);
-    }
-    let next = at + 1;
-    Stored { next, board }
+    let at = key(entry, least, EXITS)?;
+    three(parts::part(entry, b'=', 1), 65_535, 65_535, 4_294_967_295)?;
+    Some(at + 1)
 }
 
-fn entry(list: u8, text: &[u8], least: usize, board: Board) -> Stored
-    ensures { EntryRead (is_entry list text.now least) (next_of text.now) result.next board.entered result.board.entered }
+// An entry is stored in the board.
+fn entry(kind: Entries, text: &[u8], least: usize, board: &mut Board) -> Option<usize>
+    ensures next { result ≡ then_some (is_entry kind text.now least) (next_of text.now) }
+    ensures entered { board.new.entered ≡ board.old.entered }
 {
-    match list {
-        b'c' => count(text, least, board),
-        b't' => toggle(text, least, board),
-        b'd' => dial(text, least, board),
-        _ => place(text, least, board),
+    match kind {
+        Entries::Counts => count(text, least, &mut board.counts),
+        Entries::Toggles => toggle(text, least, &mut board.toggles),
+        Entries::Places => place(text, least, &mut board.places),
+        Entries::Dials => dial(text, least),
     }
 }
 
-// Reads a list into the board.
-pub fn read(list: u8, text: &[u8], before: Board) -> Listed
-    ensures { ListRead list text.now result.ok before.entered result.board.entered }
+// ---- a list
+
+// Reads entries with commas between them into the board; says whether all were entries.
+fn read_entries(kind: Entries, text: &[u8], board: &mut Board) -> bool
+    ensures is_one { result ≡ are_entries kind (parts_of 44 text.now) 0 }
+    ensures entered { board.new.entered ≡ board.old.entered }
 {
-    let mut board = before;
-    if parts::same(text, b"-") {
-        return Listed { ok: true, board };
-    }
     let mut least = 0;
-    let mut from = 0;
-    while from <= text.len() {
-        let end = parts::end_of(text, from, b',');
-        let stored = entry(list, &text[from..end], least, board);
-        least = stored.next;
-        board = stored.board;
-        if least == 0 {
-            return Listed { ok: false, board };
-        }
-        from = end + 1;
+    for part in text.split(|glyph| *glyph == b',') {
+        let Some(next) = entry(kind, part, least, board) else {
+            return false;
+        };
+        least = next;
     }
-    Listed { ok: true, board }
+    true
 }
 
-pub fn is_list(list: u8, text: &[u8]) -> bool
-    ensures { result ≡ is_list list text.now }
+// Reads a list into the board; says whether it was one.
+fn read(kind: Entries, text: &[u8], board: &mut Board) -> bool
+    ensures is_one { result ≡ is_list kind text.now }
+    ensures entered { board.new.entered ≡ board.old.entered }
 {
-    let read = read(list, text, board::fresh());
-    read.ok
+    text == b"-".as_slice() || read_entries(kind, text, board)
+}
+
+pub fn is_list(kind: Entries, text: &[u8]) -> bool
+    ensures { result ≡ is_list kind text.now }
+{
+    read(kind, text, &mut board::fresh())
 }
 
 // The board that `set W C ENTERED COUNTS TOGGLES PLACES` names, whether it is sound or not.
 pub fn board_in(line: &[u8]) -> Board
     ensures { result.entered ≡ long_at line.now 3 }
 {
-    let fresh = board::fresh();
-    let counted = read(b'c', words::word(line, 4), fresh);
-    let toggled = read(b't', words::word(line, 5), counted.board);
-    let placed = read(b'p', words::word(line, 6), toggled.board);
-    let mut board = placed.board;
+    let mut board = board::fresh();
     board.entered = words::long(line, 3);
+    read(Entries::Counts, words::word(line, 4), &mut board);
+    read(Entries::Toggles, words::word(line, 5), &mut board);
+    read(Entries::Places, words::word(line, 6), &mut board);
     board
 }

@@ -1,8 +1,7 @@
 -- The answer to the call on a design. Definitions only. Assumes nothing.
 use Rattle.std.specs.Prelude.{ℕ, List, [], ◌∷◌, take}
 use Rattle.text.specs.Text.{Puts}
-use Rattle.panels.specs.declared.Answer.{Answer}
-use Rattle.panels.specs.Answers.{DesignRead}
+use Rattle.panels.specs.Answers.{Answer, DesignRead}
 use Rattle.console_lines.specs.Hex.{HexPut}
 use Rattle.console_lines.specs.Words.{word_at, room_at}
 use Rattle.console_answers.specs.Answers.{bytes_line}

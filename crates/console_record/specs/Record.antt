@@ -12,33 +12,33 @@ use Rattle.board.specs.Sound.{inside_one}
 abbrev pub has_dealt : ℕ → Bool
 has_dealt dealt = not (eqb dealt 0)
 
-unfoldable pub count_entry : ℕ → ℕ → List ℕ
+abbrev pub count_entry : ℕ → ℕ → List ℕ
 count_entry exit dealt = (decimal exit ++ letters "=") ++ decimal dealt
 
 -- `i`: toggle i is down
 abbrev pub is_down : Bool → Bool
 is_down down = down
 
-unfoldable pub toggle_entry : ℕ → Bool → List ℕ
+abbrev pub toggle_entry : ℕ → Bool → List ℕ
 toggle_entry cell down = decimal cell
 
 -- `t=INSIDE/LEVEL/WIRE`: where token t is
 abbrev pub is_placed : Place → Bool
 is_placed p = (p.inside || not (eqb p.level 0)) || not (eqb p.wire 0)
 
-unfoldable pub place_entry : ℕ → Place → List ℕ
+abbrev pub place_entry : ℕ → Place → List ℕ
 place_entry token p =
     (decimal token ++ letters "=")
     ++ ((decimal (inside_one p) ++ letters "/") ++ ((decimal p.level ++ letters "/") ++ decimal p.wire))
 
 -- ---- the lists
-unfoldable pub count_list : Board → List ℕ
+abbrev pub count_list : Board → List ℕ
 count_list b = listed (indexed has_dealt count_entry 0 b.counts)
 
-unfoldable pub toggle_list : Board → List ℕ
+abbrev pub toggle_list : Board → List ℕ
 toggle_list b = listed (indexed is_down toggle_entry 0 b.toggles)
 
-unfoldable pub place_list : Board → List ℕ
+abbrev pub place_list : Board → List ℕ
 place_list b = listed (indexed is_placed place_entry 0 b.places)
 
 unfoldable pub board_text : Board → List ℕ

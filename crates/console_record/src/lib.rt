@@ -3,128 +3,120 @@
 // opening.
 #![tactic(auto)]
 
-ghost use Rattle.std.specs.Prelude.{◌≡◌};
+ghost use Rattle.std.specs.Prelude.{◌≡◌, ℕ, Bool, List};
 ghost use Rattle.text.specs.Text.{Puts};
-ghost use Rattle.text.specs.Lists.{entry_if};
-ghost use Rattle.board.specs.Sound.{inside_one};
+ghost use Rattle.text.specs.Lists.{listed, indexed};
 ghost use Rattle.console_record.specs.Record.{has_dealt, count_entry, is_down, toggle_entry, is_placed, place_entry, count_list, toggle_list, place_list, board_text, record_text, record_line};
 
 use board::{Board, Place};
 
-// ---- an entry of a list, where it differs from an opening; `some` says whether one stands in front
+// ---- a list
 
-// `i=n`
-fn put_count(out: &mut [u8], at: usize, some: bool, exit: usize, dealt: u32) -> usize
-    ensures { Puts (entry_if (has_dealt dealt) some (count_entry exit dealt)) at out.old result out.new }
-{
-    if dealt == 0 {
-        return at;
+// A list of a record: what it has for each exit, cell or token, and the entries that are shown.
+pub trait Listing {
+    type Member;
+
+    ghost shown: { Self.Member → Bool };
+
+    ghost entry: { ℕ → Self.Member → List ℕ };
+
+    // Does it differ from that of an opening?
+    fn is_shown(member: &Self::Member) -> bool
+        ensures { result ≡ shown member.now };
+
+    // Its entry, with its index in front.
+    fn put(out: &mut [u8], at: usize, index: usize, member: &Self::Member) -> usize
+        ensures { Puts (entry index member.now) at out.old result out.new };
+}
+
+// `i=n`: exit i has dealt n numbers
+struct Counts;
+
+impl Listing for Counts {
+    type Member = u32;
+
+    ghost shown = { has_dealt };
+
+    ghost entry = { count_entry };
+
+    fn is_shown(dealt: &u32) -> bool {
+        *dealt != 0
     }
-    let first = text::put_comma(out, at, some);
-    let second = text::put_number(out, first, exit, b'=');
-    text::put_decimal(out, second, dealt as usize)
-}
 
-// `i`, a toggle that is down
-fn put_toggle(out: &mut [u8], at: usize, some: bool, cell: usize, down: bool) -> usize
-    ensures { Puts (entry_if (is_down down) some (toggle_entry cell down)) at out.old result out.new }
-{
-    if down {
-        let first = text::put_comma(out, at, some);
-        return text::put_decimal(out, first, cell);
+    fn put(out: &mut [u8], at: usize, exit: usize, dealt: &u32) -> usize {
+        let first = text::put_number(out, at, exit, b'=');
+        text::put_decimal(out, first, *dealt as usize)
     }
-    at
 }
 
-fn is_placed(place: Place) -> bool
-    ensures { result ≡ is_placed place }
-{
-    place.inside | (place.level != 0) | (place.wire != 0)
-}
+// `i`: toggle i is down
+struct Toggles;
 
-fn one_inside(place: Place) -> usize
-    ensures { result ≡ inside_one place }
-{
-    if place.inside { 1 } else { 0 }
-}
+impl Listing for Toggles {
+    type Member = bool;
 
-// `t=INSIDE/LEVEL/WIRE`
-fn put_seat(out: &mut [u8], at: usize, token: usize, place: Place) -> usize
-    ensures { Puts (place_entry token place) at out.old result out.new }
-{
-    let inside = one_inside(place);
-    let first = text::put_number(out, at, token, b'=');
-    let second = text::put_number(out, first, inside, b'/');
-    let third = text::put_number(out, second, place.level as usize, b'/');
-    text::put_decimal(out, third, place.wire as usize)
-}
+    ghost shown = { is_down };
 
-fn put_place(out: &mut [u8], at: usize, some: bool, token: usize, place: Place) -> usize
-    ensures { Puts (entry_if (is_placed place) some (place_entry token place)) at out.old result out.new }
-{
-    if is_placed(place) {
-        let first = text::put_comma(out, at, some);
-        return put_seat(out, first, token, place);
+    ghost entry = { toggle_entry };
+
+    fn is_shown(down: &bool) -> bool {
+        *down
     }
-    at
+
+    fn put(out: &mut [u8], at: usize, cell: usize, _down: &bool) -> usize {
+        text::put_decimal(out, at, cell)
+    }
 }
 
-// ---- the lists
+// `t=INSIDE/LEVEL/WIRE`: where token t is
+struct Places;
 
-fn put_counts(out: &mut [u8], at: usize, board: Board) -> usize
-    ensures { Puts (count_list board) at out.old result out.new }
+impl Listing for Places {
+    type Member = Place;
+
+    ghost shown = { is_placed };
+
+    ghost entry = { place_entry };
+
+    fn is_shown(place: &Place) -> bool {
+        place.inside || place.level != 0 || place.wire != 0
+    }
+
+    fn put(out: &mut [u8], at: usize, token: usize, place: &Place) -> usize {
+        let first = text::put_number(out, at, token, b'=');
+        let second = text::put_number(out, first, usize::from(place.inside), b'/');
+        let third = text::put_number(out, second, usize::from(place.level), b'/');
+        text::put_decimal(out, third, usize::from(place.wire))
+    }
+}
+
+// The entries that are shown, with commas between them; `-` where there are none.
+pub fn put_list<L: Listing>(out: &mut [u8], at: usize, members: &[L::Member]) -> usize
+    ensures { Puts (listed (indexed L.shown L.entry 0 members.now)) at out.old result out.new }
 {
     let mut next = at;
     let mut some = false;
-    let mut i = 0;
-    while i < 64 {
-        let dealt = board.counts[i];
-        next = put_count(out, next, some, i, dealt);
-        some = some | (dealt != 0);
-        i += 1;
+    for (index, member) in members.iter().enumerate() {
+        if L::is_shown(member) {
+            let first = text::put_comma(out, next, some);
+            next = L::put(out, first, index, member);
+            some = true;
+        }
     }
     text::put_dash(out, next, some)
 }
 
-fn put_toggles(out: &mut [u8], at: usize, board: Board) -> usize
-    ensures { Puts (toggle_list board) at out.old result out.new }
-{
-    let mut next = at;
-    let mut some = false;
-    let mut i = 0;
-    while i < 1152 {
-        let down = board.toggles[i];
-        next = put_toggle(out, next, some, i, down);
-        some = some | down;
-        i += 1;
-    }
-    text::put_dash(out, next, some)
-}
-
-fn put_places(out: &mut [u8], at: usize, board: Board) -> usize
-    ensures { Puts (place_list board) at out.old result out.new }
-{
-    let mut next = at;
-    let mut some = false;
-    let mut i = 0;
-    while i < 256 {
-        let place = board.places[i];
-        next = put_place(out, next, some, i, place);
-        some = some | is_placed(place);
-        i += 1;
-    }
-    text::put_dash(out, next, some)
-}
+// ---- the record
 
 // `COUNTS TOGGLES PLACES`
 fn put_board(out: &mut [u8], at: usize, board: Board) -> usize
     ensures { Puts (board_text board) at out.old result out.new }
 {
-    let first = put_counts(out, at, board);
+    let first = put_list::<Counts>(out, at, &board.counts);
     let second = text::put_byte(out, first, b' ');
-    let third = put_toggles(out, second, board);
+    let third = put_list::<Toggles>(out, second, &board.toggles);
     let fourth = text::put_byte(out, third, b' ');
-    put_places(out, fourth, board)
+    put_list::<Places>(out, fourth, &board.places)
 }
 
 // A record of this width and construction or depth, at the front.

@@ -1,11 +1,12 @@
 -- The run after a line that is a call, and the line that answers it. Definitions only. Assumes nothing.
-use Rattle.std.specs.Prelude.{ℕ, ◌≡◌, Bool, cond, List, [], ◌∷◌, ◌++◌, take, replicate}
+use Rattle.std.specs.Prelude.{ℕ, ◌≡◌, Bool, cond, List, [], ◌∷◌, ◌++◌, take, replicate, Result}
+use Rattle.std.specs.Result.{result_unwrap_or}
 use Rattle.text.specs.Text.{letters, Puts}
 use Rattle.text.specs.Numbers.{row}
-use Rattle.order.specs.declared.Filled.{Filled}
+use Rattle.order.specs.declared.Refusal.{Refusal}
+use Rattle.order.specs.Order.{refused_by}
 use Rattle.board.specs.declared.Board.{Board}
-use Rattle.moves.specs.declared.Turn.{Turn}
-use Rattle.moves.specs.declared.Turn.TheVariants.{Passed, Dealt, Refused}
+use Rattle.moves.specs.Answer.{Answer, Passed, Dealt, Refused}
 use Rattle.run.specs.declared.Run.{Run}
 use Rattle.run.specs.Run.{open_of, enter_of, turn_of}
 use Rattle.gaps.specs.Gaps.{GapsIs}
@@ -38,7 +39,7 @@ after_turn line run = (turn_of run (short_at line 1)).run
 unfoldable pub move_line : List ℕ → List ℕ → List ℕ
 move_line what values = what ++ (row values ++ letters "\n")
 
-unfoldable pub moved_line : Turn → List ℕ
+unfoldable pub moved_line : Answer → List ℕ
 moved_line (Passed l v L c s) = move_line (letters "0 passed") (l ∷ v ∷ L ∷ c ∷ s ∷ [])
 moved_line (Dealt i n) = move_line (letters "0 dealt") (i ∷ n ∷ [])
 moved_line (Refused n) = refusal_line n
@@ -57,9 +58,12 @@ pub record SetIs (line : List ℕ) (w k entered : ℕ) (good : Bool) (before : L
 abbrev pub lent_numbers : ℕ → List ℕ
 lent_numbers room = take room (replicate 65536 4294967295)
 
--- the call's answer, and the numbers after it
-pub record GapsAnswered (line : List ℕ) (good : Bool) (w : ℕ) (x : Board) (before : List ℕ) (end : ℕ) (after : List ℕ) : Type 0 where
-  pub done : Filled
+-- a call that fills them, by what it may answer and leave of the numbers before: its answer, and the numbers after it
+pub record NumbersFilled (call : List ℕ → Result ℕ Refusal → List ℕ → Type 0) (line before : List ℕ) (end : ℕ) (after : List ℕ) : Type 0 where
+  pub done : Result ℕ Refusal
   pub lent : List ℕ
-  pub called : GapsIs good w x (lent_numbers (room_at line 1)) lent done
-  pub puts : Puts (numbers_line done.refusal (done.filled ∷ []) lent) 0 before end after
+  pub called : call (lent_numbers (room_at line 1)) done lent
+  pub puts : Puts (numbers_line (refused_by done) (result_unwrap_or done 0 ∷ []) lent) 0 before end after
+
+abbrev pub GapsAnswered : List ℕ → Bool → ℕ → Board → List ℕ → ℕ → List ℕ → Type 0
+GapsAnswered line good w x = NumbersFilled (λ before r after. GapsIs good w x before after r) line

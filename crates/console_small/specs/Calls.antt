@@ -2,15 +2,14 @@
 use Rattle.std.specs.Prelude.{ℕ, ◌≡◌, List, [], ◌∷◌}
 use Rattle.text.specs.Text.{letters}
 use Rattle.run.specs.Run.{sound}
-use Rattle.dials.specs.declared.Top.{Top}
-use Rattle.dials.specs.declared.Top.TheVariants.{Number, Nothing, Refused}
-use Rattle.dials.specs.Highest.{highest_of}
+use Rattle.dials.specs.Dials.{open_dial}
+use Rattle.dials.specs.Highest.{Top, Number, Nothing, Refused, highest_of}
 use Rattle.small.specs.declared.Cabinet.{Cabinet}
 use Rattle.small.specs.Small.{open_small, enter_small, turn_small, poll_small}
 use Rattle.console_lines.specs.Words.{word_at, short_at}
 use Rattle.console_answers.specs.Answers.{refusal_line, values_line}
 use Rattle.console_run.specs.Calls.{moved_line, SetIs}
-use Rattle.console_small.specs.Named.{dials_in, sums_in}
+use Rattle.console_small.specs.Named.{dial_in, sum_in, named}
 
 -- `dopen W C`
 abbrev pub after_open : List ℕ → Cabinet
@@ -45,7 +44,7 @@ poll_line line x =
 -- `dset W C ENTERED COUNTS TOGGLES PLACES DIALS`: the run inside is that of `set`, and the dials are those of the list
 pub record SmallSetIs (line : List ℕ) (x : Cabinet) (before : List ℕ) (end : ℕ) (after : List ℕ) : Type 0 where
   pub run_set : SetIs line x.run.width x.run.construction x.run.board.entered (sound x.run) before end after
-  pub dials_are : x.dials ≡ dials_in (word_at line 7)
+  pub dials_are : x.dials ≡ named dial_in open_dial (word_at line 7)
 
 -- `highest W SUMS`: `0 NUMBER`, `0 none` or the refusal number
 unfoldable pub top_line : Top → List ℕ
@@ -54,4 +53,4 @@ top_line Nothing = letters "0 none\n"
 top_line (Refused n) = refusal_line n
 
 abbrev pub highest_line : List ℕ → List ℕ
-highest_line line = top_line (highest_of (short_at line 1) (sums_in (word_at line 2)))
+highest_line line = top_line (highest_of (short_at line 1) (named sum_in 0 (word_at line 2)))

@@ -12,12 +12,12 @@ use Rattle.console_record.specs.Record.{record_text}
 abbrev pub has_read : Dial → Bool
 has_read d = (not (eqb d.now 0) || not (eqb d.last 0)) || not (eqb d.sum 0)
 
-unfoldable pub dial_entry : ℕ → Dial → List ℕ
+abbrev pub dial_entry : ℕ → Dial → List ℕ
 dial_entry exit d =
     (decimal exit ++ letters "=")
     ++ ((decimal d.now ++ letters "/") ++ ((decimal d.last ++ letters "/") ++ decimal d.sum))
 
-unfoldable pub dial_list : List Dial → List ℕ
+abbrev pub dial_list : List Dial → List ℕ
 dial_list ds = listed (indexed has_read dial_entry 0 ds)
 
 unfoldable pub small_line : Cabinet → List ℕ

@@ -1,76 +1,63 @@
-// What the lists of a line on the small cabinet name: its dials, `i=NOW/LAST/SUM,..`, and sums of yields, `i=n,..`; an exit that is
-// not named has 0. Who calls has seen that the text is such a list (`console_lists::is_list`).
-ghost use Rattle.std.specs.Prelude.{◌≡◌};
-ghost use Rattle.console_small.specs.Named.{dial_in, dial_stored, dials_in, sum_stored, sums_in};
+// What the lists of a line on the small cabinet name: its dials, `i=NOW/LAST/SUM,..`, and sums of yields, `i=n,..`. Who calls has seen
+// that the text is such a list (`console_lists::is_list`).
+ghost use Rattle.std.specs.Prelude.{◌≡◌, ℕ, List};
+ghost use Rattle.console_small.specs.Named.{dial_in, sum_in, stored, named};
 
+use board::EXITS;
 use console_lines::{numbers, parts};
 use dials::Dial;
 
-// The dial that `NOW/LAST/SUM` spells.
-fn dial(text: &[u8]) -> Dial
-    ensures { result ≡ dial_in text.now }
-{
-    let now = numbers::decimal(parts::part(text, b'/', 0), 65_535);
-    let last = numbers::decimal(parts::part(text, b'/', 1), 65_535);
-    let sum = numbers::decimal(parts::part(text, b'/', 2), 4_294_967_295);
-    Dial {
-        now: now.value as u16,
-        last: last.value as u16,
-        sum: sum.value as u32,
+// What an entry spells behind `=`.
+pub trait FromText: Copy {
+    ghost value: { List ℕ → Self };
+
+    fn from_text(text: &[u8]) -> Self
+        ensures { result ≡ value text.now };
+}
+
+// `NOW/LAST/SUM`
+impl FromText for Dial {
+    ghost value = { dial_in };
+
+    #[tactic(auto, unfolding(crate::specs::Named::dial_in))]
+    fn from_text(text: &[u8]) -> Dial {
+        let now = numbers::decimal(parts::part(text, b'/', 0), 65_535).unwrap_or(0);
+        let last = numbers::decimal(parts::part(text, b'/', 1), 65_535).unwrap_or(0);
+        let sum = numbers::decimal(parts::part(text, b'/', 2), 4_294_967_295).unwrap_or(0);
+        Dial {
+            now: now as u16,
+            last: last as u16,
+            sum: sum as u32,
+        }
     }
 }
 
-// The dials with an entry; without a change where it names no exit.
-fn dial_stored(entry: &[u8], mut dials: [Dial; 64]) -> [Dial; 64]
-    ensures { result ≡ dial_stored entry.now dials }
-{
-    let at = console_lists::index(parts::part(entry, b'=', 0), 0, 64);
-    let dial = dial(parts::part(entry, b'=', 1));
-    if at < 64 {
-        dials[at] = dial;
-        return dials;
+// The sum of an exit's yields.
+impl FromText for u32 {
+    ghost value = { sum_in };
+
+    fn from_text(text: &[u8]) -> u32 {
+        numbers::decimal(text, 4_294_967_295).unwrap_or(0) as u32
     }
-    dials
 }
 
-pub fn dials_in(text: &[u8]) -> [Dial; 64]
-    ensures { result ≡ dials_in text.now }
+// With an entry; without a change where it names no exit.
+fn stored<T: FromText>(mut values: [T; EXITS], entry: &[u8]) -> [T; EXITS]
+    ensures { result ≡ stored T.value values entry.now }
 {
-    let dial = Dial::open();
-    let mut dials = [dial; 64];
-    let count = parts::count(text, b',');
-    let mut k = 0;
-    while k < count {
-        let after = dial_stored(parts::part(text, b',', k), dials);
-        dials = after;
-        k += 1;
+    if let Some(exit) = console_lists::index(parts::part(entry, b'=', 0), 0, EXITS) {
+        values[exit] = T::from_text(parts::part(entry, b'=', 1));
     }
-    dials
+    values
 }
 
-// The sums with an entry; without a change where it names no exit.
-fn sum_stored(entry: &[u8], mut sums: [u32; 64]) -> [u32; 64]
-    ensures { result ≡ sum_stored entry.now sums }
+// All that a list names; an exit that is not named has what is given as blank.
+pub fn named<T: FromText>(text: &[u8], blank: T) -> [T; EXITS]
+    ensures { result ≡ named T.value blank text.now }
 {
-    let at = console_lists::index(parts::part(entry, b'=', 0), 0, 64);
-    let sum = numbers::decimal(parts::part(entry, b'=', 1), 4_294_967_295);
-    if at < 64 {
-        sums[at] = sum.value as u32;
-        return sums;
+    let mut values = [blank; EXITS];
+    for k in 0..parts::count(text, b',') {
+        values = stored(values, parts::part(text, b',', k));
     }
-    sums
-}
-
-pub fn sums_in(text: &[u8]) -> [u32; 64]
-    ensures { result ≡ sums_in text.now }
-{
-    let mut sums = [0u32; 64];
-    let count = parts::count(text, b',');
-    let mut k = 0;
-    while k < count {
-        let after = sum_stored(parts::part(text, b',', k), sums);
-        sums = after;
-        k += 1;
-    }
-    sums
+    values
 }

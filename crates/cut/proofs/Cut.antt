@@ -12,14 +12,13 @@ use lib.ListN.{length, take, drop}
 use lib.Seq.{length-take-le}
 use lib.Dec.{ltb, eqb}
 use borrow.Author.Tests.{lt-ltb, le-ltb, ltb-false, eq-eqb, ne_eqb}
+use Rattle.std.proofs.lemmas.Slice.{between_is}
 use Rattle.board.proofs.Lists.{cond_case}
 use Rattle.records.specs.declared.Record.{Record}
-use Rattle.records.specs.declared.Read.TheVariants.{Got, Refused as Unread}
-use Rattle.records.specs.Reading.{length_in, read_of}
+use Rattle.records.specs.Reading.{Got, Refused as Unread, length_in, read_of}
 use Rattle.records.proofs.Reading.{read→gotten, read_length}
-use Rattle.records.proofs.Cut.{drop_take, read_head_cut, read_whole, read_body_cut}
-use Rattle.outcome.specs.declared.Outcome.{Outcome}
-use Rattle.outcome.specs.declared.Outcome.TheVariants.{Accepted, Refused}
+use Rattle.records.proofs.Cut.{read_head_cut, read_whole, read_body_cut}
+use Rattle.outcome.specs.Outcome.{Outcome, Accepted, Refused}
 use Rattle.outcome.specs.Course.{Course, at_start, Step}
 use Rattle.outcome.specs.Schedule.{Told, record_at, tell_from, tell}
 use Rattle.outcome.specs.Whole.{settle, run_of, values_of}
@@ -48,7 +47,7 @@ module _ (s : List ℕ) (n : ℕ) (short : n < length s) where
   -- what is read there, of the bytes that are there
   record_front : (at : ℕ) → at < n → record_at front at ≡ read_of false (take (n - at) (drop at s))
   unfolding record_at
-  record_front at h = rw (length_front, lt-ltb at n h, drop_take at n s)
+  record_front at h = rw (length_front, lt-ltb at n h, ← between_is s at n)
 
   module _ (x : Course) (at len : ℕ) (y : Step) (p : Stepped s x at len y) where
     read : read_of false (drop at s) ≡ Got p.item len

@@ -2,10 +2,8 @@
 -- the proof is `cut_anywhere` of proofs/Cut. Assumes nothing.
 use Rattle.std.specs.Prelude.{ℕ, ◌-◌, ◌<◌, ◌≡◌, Bool, cond, List, length, take, ltb, eqb}
 use Rattle.records.specs.declared.Record.{Record}
-use Rattle.records.specs.declared.Read.TheVariants.{Got, Refused as Unread}
-use Rattle.records.specs.Reading.{read_of}
-use Rattle.outcome.specs.declared.Outcome.{Outcome}
-use Rattle.outcome.specs.declared.Outcome.TheVariants.{Refused}
+use Rattle.records.specs.Reading.{Got, Refused as Unread, read_of}
+use Rattle.outcome.specs.Outcome.{Outcome, Refused}
 use Rattle.outcome.specs.Whole.{run_of, values_of}
 use Rattle.cut.specs.Starts.{start_of, StandsIn}
 

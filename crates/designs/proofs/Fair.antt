@@ -18,12 +18,11 @@ use Rattle.network.proofs.Rows.{place_of_once}
 use Rattle.network.proofs.Once.{Once}
 use Rattle.records.specs.Fields.{field}
 use Rattle.records.specs.Reading.{kind_in}
-use Rattle.designs.specs.declared.Fault.{Fault}
 use Rattle.designs.specs.Panels.{Panel, cell, named, cross, feed_sheet}
 use Rattle.designs.specs.Members.{Joint, series, beside, joined, all_equal}
 use Rattle.feed_sheet.specs.Limits.{in_limits, permutation}
 use Rattle.designs.specs.Records.{behind, head_no}
-use Rattle.designs.specs.Leaves.{Read, refused, made, judged, cross_no, leaf_of}
+use Rattle.designs.specs.Leaves.{Fault, Read, refused, made, judged, cross_no, leaf_of}
 use Rattle.designs.specs.Designs.{Members, stopped, all, first, members_in, size_no, joined_at, body_of, record_at, design_of}
 use Rattle.designs.specs.PanelsRead.{PanelsRead}
 use Rattle.feed_sheet.proofs.Permutations.{permutation_once, once_permutation}

@@ -6,9 +6,8 @@ use native.Mathlib.Omega.{arith}
 use lib.ListN.{length, drop}
 use borrow.Author.Tests.{ne_eqb}
 use Rattle.records.specs.Reading.{length_in}
-use Rattle.designs.specs.declared.Fault.{Fault}
 use Rattle.designs.specs.Panels.{Panel}
-use Rattle.designs.specs.Leaves.{Read, refused, made}
+use Rattle.designs.specs.Leaves.{Fault, Read, refused, made}
 use Rattle.designs.specs.Designs.{Members, stopped, all, first, members_in}
 
 -- members that were read before, in front

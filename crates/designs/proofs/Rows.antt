@@ -25,13 +25,6 @@ once_then {n} {f} {g} x y = record {
 abbrev side : ℕ → (ℕ → ℕ) → (ℕ → ℕ) → ℕ → ℕ
 side a f g v = cond (ltb v a) (f v) (a + g (v - a))
 
-module _ {a b : ℕ} {f g : ℕ → ℕ} (x : Once a f) (y : Once b g) where
-  side_low : (v : ℕ) → v < a → side a f g v ≡ f v
-  side_low v l = rw (lt-ltb v a l)
-
-  side_high : (v : ℕ) → v < b → side a f g (a + v) ≡ a + g v
-  side_high v l = let e : a + v - a ≡ v = omega arith in rw (le-ltb (a + v) a (omega arith), e)
-
 once_side : {a b : ℕ} {f g : ℕ → ℕ} → Once a f → Once b g → Once (a + b) (side a f g)
 once_side {a} {b} {f} {g} x y = record {
   below = λ v l. ⊎_elim

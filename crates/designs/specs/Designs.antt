@@ -3,11 +3,10 @@ use Rattle.std.specs.Prelude.{ℕ, zero, suc, ◌+◌, Bool, false, true, not, c
 use Rattle.order.specs.Order.{◌⟶◌, first_of}
 use Rattle.feed_sheet.specs.Limits.{in_limits}
 use Rattle.records.specs.Reading.{length_in, kind_in}
-use Rattle.designs.specs.declared.Fault.{Fault}
 use Rattle.designs.specs.Panels.{Panel}
 use Rattle.designs.specs.Members.{Joint, series, beside, joined, all_equal}
 use Rattle.designs.specs.Records.{behind, head_no}
-use Rattle.designs.specs.Leaves.{Read, refused, made, head_fault, judged, leaf_of}
+use Rattle.designs.specs.Leaves.{Fault, Read, refused, made, head_fault, judged, leaf_of}
 
 -- ---- members from the left: the first refusal, or all of them
 pub data Members : Type 0 where

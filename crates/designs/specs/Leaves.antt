@@ -1,12 +1,20 @@
 -- What a record of a design comes to, and those without members (02, P3). Definitions only. Assumes nothing.
 use Rattle.std.specs.Prelude.{ℕ, not, cond, List, [], ◌∷◌, eqb, length, drop}
-use Rattle.order.specs.Order.{◌⟶◌, first_of}
+use Rattle.order.specs.Order.{◌⟶◌, number_of, first_of}
 use Rattle.network.specs.Widths.{open_no}
 use Rattle.feed_sheet.specs.Limits.{in_limits, permutation}
 use Rattle.records.specs.Fields.{field}
 use Rattle.records.specs.Reading.{present_of}
-use Rattle.designs.specs.declared.Fault.{Fault}
 use Rattle.designs.specs.Panels.{Panel, cell, named, cross}
+
+-- why a record is refused: the number, the offset of the record, and how many bytes of it are present where it is cut, else 0
+pub record Fault : Type 0 where
+  pub refusal : ℕ
+  pub offset : ℕ
+  pub present : ℕ
+
+abbrev pub fault_of : Rattle.designs.specs.declared.Fault.Fault → Fault
+fault_of x = record { refusal = number_of x.refusal; offset = x.offset; present = x.present }
 
 pub data Read : Type 0 where
   refused : Fault → Read

@@ -1,7 +1,26 @@
 -- The records of a design, and why the head of one is refused (02, P3). Definitions only. Assumes nothing.
 use Rattle.std.specs.Prelude.{ℕ, ◌+◌, ◌-◌, Bool, not, cond, ◌&&◌, List, [], ◌∷◌, ltb, leb, eqb, length, get_or, take, drop}
-use Rattle.order.specs.Order.{◌⟶◌, first_of}
+use Rattle.order.specs.Order.{Rule, ◌⟶◌, number_of, first_of}
+use Rattle.order.specs.declared.Refusal.{Refusal}
 use Rattle.records.specs.Reading.{length_in, kind_in}
+use Rattle.designs.specs.declared.Kind.{Kind}
+use Rattle.designs.specs.declared.Kind.TheVariants.{Series, Beside, Leaf}
+use Rattle.designs.specs.declared.Leaf.TheVariants.{Cell, Named, Cross}
+
+-- a rule as a condition and its refusal
+abbrev pub rule_of : Bool × Refusal → Rule
+rule_of r = r.0 ⟶ number_of r.1
+
+-- the number of each kind
+abbrev pub leaf_number : Rattle.designs.specs.declared.Leaf.Leaf → ℕ
+leaf_number Cell = 18
+leaf_number Named = 19
+leaf_number Cross = 20
+
+abbrev pub kind_number : Kind → ℕ
+kind_number Series = 16
+kind_number Beside = 17
+kind_number (Leaf l) = leaf_number l
 
 -- 16 series, 17 beside, 18 one cell, 19 a named network, 20 cross
 abbrev pub known_kind : ℕ → Bool

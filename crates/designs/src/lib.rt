@@ -1,105 +1,173 @@
-// What the records of a design are refused for, by themselves. Every call answers every argument.
+// The records of a design, each by itself: what it is refused for, and how it is taken apart. Every call answers every argument.
 #![tactic(auto)]
 
-ghost use Rattle.std.specs.Prelude.{◌≡◌, get_or};
-ghost use Rattle.designs.specs.Records.{length_fits, head_no};
+ghost use Rattle.std.specs.Prelude.{◌≡◌, true, ◌+◌, ◌≤◌, length, get_or, map};
+ghost use Rattle.order.specs.Order.{refused_by, first_of};
+ghost use Rattle.records.specs.Reading.{length_in, kind_in};
+ghost use Rattle.designs.specs.Records.{rule_of, leaf_number, kind_number, known_kind, length_fits, head_no};
 ghost use Rattle.designs.specs.Leaves.{cross_no};
+ghost use Rattle.designs.specs.Heads.{JudgedAt, TakenApart, Past};
 ghost use Rattle.designs.specs.Designs.{size_no};
 
 use feed_sheet::{in_limits, is_permutation};
-use records::field_of_two;
+use order::Refusal;
+use records::{field_of_two, present_of};
 
-// Why a design is refused: the number, the offset of the record refused, and how many bytes of it are present where it is cut, else 0.
+// Why a design is refused: the refusal, the offset of the record refused, and how many bytes of it are present where it is cut, else 0.
 #[derive(Clone, Copy)]
 pub struct Fault {
-    pub refusal: u8,
+    pub refusal: Refusal,
     pub offset: usize,
     pub present: usize,
 }
 
-// The byte behind the head, 0 where there is none.
-fn fifth_of(bytes: &[u8]) -> u8
-    ensures { result ≡ get_or bytes.now 4 0 }
+// The outcome of a check of the record at an offset, which is not cut.
+pub fn judged(at: usize, check: Result<(), Refusal>) -> Result<(), Fault>
+    ensures { JudgedAt at (refused_by check) result }
 {
-    if 4 < bytes.len() { bytes[4] } else { 0 }
+    check.map_err(|refusal| Fault {
+        refusal,
+        offset: at,
+        present: 0,
+    })
 }
 
-// Is that the length of a record of the kind, whose fifth byte is given?
+// What a record is: members one after another, members side by side, or a leaf, which has no members.
+#[derive(Clone, Copy)]
+pub enum Kind {
+    Series,
+    Beside,
+    Leaf(Leaf),
+}
+
+#[derive(Clone, Copy)]
+pub enum Leaf {
+    Cell,
+    Named,
+    Cross,
+}
+
+// Bytes of a design where they stand: a record's, or those behind its head; the offset of the record; and how much nesting is left.
+#[derive(Clone, Copy)]
+pub struct Stretch<'a> {
+    pub bytes: &'a [u8],
+    pub at: usize,
+    pub left: usize,
+}
+
+// Is the length of the record in front that of its kind? The length of a cross goes by its width byte, 0 where there is none.
 #[tactic(auto, unfolding(crate::specs::Records::length_fits))]
-fn length_fits(kind: u16, size: u16, fifth: u8) -> bool
-    ensures { result ≡ length_fits kind size fifth }
+fn length_fits(bytes: &[u8]) -> bool
+    ensures { result ≡ length_fits (kind_in bytes.now) (length_in bytes.now) (get_or bytes.now 4 0) }
 {
-    match kind {
+    let size = field_of_two(bytes, 0) as usize;
+    match field_of_two(bytes, 2) {
         18 => size == 4,
         19 => size == 8,
-        20 => size == 5 + (fifth as u16),
+        20 => size == 5 + (bytes.get(4).copied().unwrap_or(0) as usize),
         _ => 4 <= size,
     }
 }
 
-// Why the record in front is refused before its members are looked at.
-pub fn head_refusal(bytes: &[u8], left: usize, outermost: bool) -> u8
-    ensures { result ≡ head_no left outermost bytes.now }
+// The first refusal whose condition holds.
+fn first_of(rules: &[(bool, Refusal)]) -> Result<(), Refusal>
+    ensures { refused_by result ≡ first_of (map rule_of rules.now) }
+{
+    for (when, refusal) in rules {
+        if *when {
+            return Err(*refusal);
+        }
+    }
+    Ok(())
+}
+
+// Is the record in front refused before its members are looked at?
+pub fn check_head(bytes: &[u8], left: usize, outermost: bool) -> Result<(), Refusal>
+    ensures { refused_by result ≡ head_no left outermost bytes.now }
 {
     let n = bytes.len();
-    let size = field_of_two(bytes, 0);
+    let size = field_of_two(bytes, 0) as usize;
     let kind = field_of_two(bytes, 2);
-    let fits = length_fits(kind, size, fifth_of(bytes));
-    if n < 4 {
-        return 11;
-    }
-    if !((16 <= kind) & (kind <= 20)) {
-        return 13;
-    }
-    if (kind == 20) & (size < 5) {
-        return 12;
-    }
-    if (kind == 20) & (n < 5) {
-        return 23;
-    }
-    if !fits {
-        return 12;
-    }
-    if outermost & ((size as usize) < n) {
-        return 12;
-    }
-    if n < size as usize {
-        return 23;
-    }
-    if left == 0 {
-        return 18;
-    }
-    if (kind <= 17) & (size == 4) {
-        return 19;
-    }
-    0
+    let fits = length_fits(bytes);
+    first_of(&[
+        (n < 4, Refusal::HeadCut),
+        (!((16 <= kind) & (kind <= 20)), Refusal::UnknownKind),
+        ((kind == 20) & (size < 5), Refusal::WrongLength),
+        ((kind == 20) & (n < 5), Refusal::BodyCut),
+        (!fits, Refusal::WrongLength),
+        (outermost & (size < n), Refusal::WrongLength),
+        (n < size, Refusal::BodyCut),
+        (left == 0, Refusal::NestedTooDeep),
+        ((kind <= 17) & (size == 4), Refusal::NoMembers),
+    ])
 }
 
-// Why a cross is refused.
-pub fn cross_refusal(places: &[u8]) -> u8
-    ensures { result ≡ cross_no places.now }
+// Is a cross refused?
+#[tactic(auto, unfolding(crate::specs::Leaves::cross_no))]
+pub fn check_cross(places: &[u8]) -> Result<(), Refusal>
+    ensures { refused_by result ≡ cross_no places.now }
 {
-    let whole = is_permutation(places);
-    if !whole {
-        return 21;
-    }
-    let within = in_limits(places.len(), 0);
-    if !within {
-        return 22;
-    }
-    0
+    first_of(&[
+        (!is_permutation(places), Refusal::NoPermutation),
+        (!in_limits(places.len(), 0), Refusal::PastLimits),
+    ])
 }
 
-// Why members of so much size together are refused.
-pub fn size_refusal(equal: bool, width: usize, depth: usize) -> u8
-    ensures { result ≡ size_no equal width depth }
+// Are members of so much size together refused?
+#[tactic(auto, unfolding(crate::specs::Designs::size_no))]
+pub fn check_size(equal: bool, width: usize, depth: usize) -> Result<(), Refusal>
+    ensures { refused_by result ≡ size_no equal width depth }
 {
-    if !equal {
-        return 20;
+    first_of(&[
+        (!equal, Refusal::Unequal),
+        (!in_limits(width, depth), Refusal::PastLimits),
+    ])
+}
+
+// What the record in front is; a number that is no kind's counts as a cross.
+fn kind_of(bytes: &[u8]) -> Kind
+    ensures { known_kind (kind_in bytes.now) ≡ true → kind_number result ≡ kind_in bytes.now }
+{
+    match field_of_two(bytes, 2) {
+        16 => Kind::Series,
+        17 => Kind::Beside,
+        18 => Kind::Leaf(Leaf::Cell),
+        19 => Kind::Leaf(Leaf::Named),
+        _ => Kind::Leaf(Leaf::Cross),
     }
-    let within = in_limits(width, depth);
-    if !within {
-        return 22;
+}
+
+impl<'a> Stretch<'a> {
+    // What the record in front is, and the bytes behind its head; or why it is refused by its head.
+    pub fn take_apart(self, outermost: bool) -> Result<(Kind, Stretch<'a>), Fault>
+        ensures { TakenApart self.entry.bytes.now self.entry.at self.entry.left outermost result }
+    {
+        let bytes = self.bytes;
+        check_head(bytes, self.left, outermost).map_err(|refusal| Fault {
+            refusal,
+            offset: self.at,
+            present: present_of(refusal, bytes.len()),
+        })?;
+        let size = field_of_two(bytes, 0) as usize;
+        let inner = Stretch {
+            bytes: &bytes[4..size],
+            left: self.left - 1,
+            ..self
+        };
+        Ok((kind_of(bytes), inner))
     }
-    0
+
+    // What stands behind the record in front, which ends within.
+    pub fn past(self) -> Stretch<'a>
+        requires within { length_in self.bytes.now ≤ length self.bytes.now }
+        requires low { self.at + length self.bytes.now ≤ 65535 }
+        ensures { Past self.entry.bytes.now self.entry.at self.entry.left result }
+    {
+        let size = field_of_two(self.bytes, 0) as usize;
+        Stretch {
+            bytes: &self.bytes[size..],
+            at: self.at + size,
+            ..self
+        }
+    }
 }

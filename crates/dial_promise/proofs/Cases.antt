@@ -12,8 +12,7 @@ use Rattle.moves.specs.Turn.{turn_no, dealing, turn_with}
 use Rattle.run.specs.Run.{fresh, open_of, depth_in, sound, enter_of, turn_of}
 use Rattle.promise.specs.History.{enter, turn}
 use Rattle.dials.specs.Dials.{advance_of, yield_of, poll_of}
-use Rattle.dials.specs.declared.Top.TheVariants.{Number}
-use Rattle.dials.specs.Highest.{past_at, past_below, highest_of}
+use Rattle.dials.specs.Highest.{Number, past_at, past_below, highest_of}
 use Rattle.small.specs.Small.{open_small, enter_small, dials_after, turn_small, poll_no, poll_small}
 use Rattle.dial_promise.specs.Told.{SmallCall, call, poll, dealt, polled, small_call, small_calls, small_history}
 use Rattle.dial_promise.specs.Promise.{sums_of}

@@ -1,13 +1,12 @@
 -- Laws of the highest number dealt. In order: one exit; one exit more; what is answered; it is the largest. Assumes nothing.
-use Rattle.std.proofs.Common.{◌≡◌, ℕ, zero, suc, ◌+◌, ◌-◌, ◌*◌, ◌<◌, ◌≤◌, true, false, List, get_or, sym, refl, ◌∙◌, true≢false, mul-le-mul, add-one, arith, eq-eqb, ne_eqb, le-leb}
+use Rattle.std.proofs.Common.{◌≡◌, max, Ok, Option, Some, None, ℕ, zero, suc, ◌+◌, ◌-◌, ◌*◌, ◌<◌, ◌≤◌, true, false, List, get_or, sym, refl, ◌∙◌, true≢false, mul-le-mul, add-one, arith, eq-eqb, ne_eqb}
 use mathlib.Core.Bool.{false≢true}
 use native.Mathlib.Decide.{ℕ_discrete, dec_le}
-use borrow.Author.Tests.{lt-leb}
+use Rattle.std.specs.Option.{SomeIff}
 use Rattle.network.specs.Widths.{width_ok}
 use Rattle.moves.specs.Turn.{number_at}
-use Rattle.dials.specs.declared.Top.TheVariants.{Number, Nothing, Refused}
 use Rattle.dials.specs.Dials.{sum_round}
-use Rattle.dials.specs.Highest.{larger, past_at, past_below, highest_of, values_of, HighestIs}
+use Rattle.dials.specs.Highest.{Number, Nothing, Refused, top_by, past_at, past_below, highest_of, values_of, HighestIs}
 
 -- ---- one exit
 pub before_small : (w s : ℕ) → w ≤ 64 → s < sum_round → w * (s - 1) ≤ 64 * 4294967294
@@ -25,7 +24,7 @@ past_some w i s n = rw (ne_eqb s 0 n)
 
 -- ---- one exit more
 pub past_more : (w : ℕ) (sums : List ℕ) (i past here r : ℕ) → past ≡ past_below w sums i → here ≡ past_at w i (get_or sums i 0)
-    → r ≡ larger past here → r ≡ past_below w sums (i + 1)
+    → r ≡ max past here → r ≡ past_below w sums (i + 1)
 unfolding past_below
 past_more w sums i past here r p q e = rw (add-one i, e, p, q)
 
@@ -44,19 +43,12 @@ module _ (w : ℕ) (sums : List ℕ) where
     unfolding highest_of
     highest_number z = rw (h, ← e, ne_eqb n 0 z)
 
+    -- one less, where that is a number, else none
+    pub highest_told : (r : Option ℕ) → SomeIff r (1 ≤ n) (n - 1) → top_by (Ok r) ≡ highest_of w sums
+    highest_told None l = highest_nothing (omega arith)
+    highest_told (Some m) l = rw l.1 (highest_number (λ z. omega (arith, l.0)))
+
 -- ---- it is the largest
-larger_left : (a b : ℕ) → a ≤ larger a b
-larger_left a b = elim (dec_le a b) [
-  | yes l ↦ rw (le-leb a b l) l
-  | no l ↦ rw (lt-leb a b (omega arith)) (omega arith)
-]
-
-larger_right : (a b : ℕ) → b ≤ larger a b
-larger_right a b = elim (dec_le a b) [
-  | yes l ↦ rw (le-leb a b l) (omega arith)
-  | no l ↦ rw (lt-leb a b (omega arith)) (omega arith)
-]
-
 module _ (w : ℕ) (sums : List ℕ) where
   abbrev at : ℕ → ℕ
   at i = past_at w i (get_or sums i 0)
@@ -65,8 +57,8 @@ module _ (w : ℕ) (sums : List ℕ) where
   unfolding past_below
   past_most zero i l = absurd (omega arith)
   past_most (suc n) i l = elim (ℕ_discrete i n) [
-    | yes e ↦ rw e (larger_right (past_below w sums n) (at n))
-    | no d ↦ omega (arith, past_most n i (omega arith), larger_left (past_below w sums n) (at n))
+    | yes e ↦ rw e (omega arith)
+    | no d ↦ omega (arith, past_most n i (omega arith))
   ]
 
   -- where it is above 0, it is that of some exit
@@ -74,9 +66,9 @@ module _ (w : ℕ) (sums : List ℕ) where
   unfolding past_below
   past_one zero l = absurd (omega arith)
   past_one (suc n) l = elim (dec_le (past_below w sums n) (at n)) [
-    | yes h ↦ (n, (omega arith, sym (rw (le-leb (past_below w sums n) (at n) h))))
+    | yes h ↦ (n, (omega arith, omega arith))
     | no h ↦
-        let left : larger (past_below w sums n) (at n) ≡ past_below w sums n = rw (lt-leb (past_below w sums n) (at n) (omega arith)) in
+        let left : max (past_below w sums n) (at n) ≡ past_below w sums n = omega arith in
         let i = past_one n (omega arith) in
         (i.0, (omega (arith, i.1.0), i.1.1 ∙ sym left))
   ]

@@ -1,13 +1,10 @@
 -- The highest number dealt, from the sums of the yields of the exits (02, P6). Definitions and the statement of what they come to,
 -- whose proof is `highest_is` of proofs/Past. Assumes nothing.
-use Rattle.std.specs.Prelude.{◌≡◌, ℕ, zero, suc, ◌+◌, ◌-◌, ◌<◌, ◌≤◌, Bool, true, false, cond, List, ◌==◌, nat_le, slice_index}
+use Rattle.std.specs.Prelude.{◌≡◌, Result, Ok, Err, Option, Some, None, ℕ, zero, suc, ◌+◌, ◌-◌, ◌<◌, ◌≤◌, Bool, true, false, cond, List, ◌==◌, max, slice_index}
+use Rattle.order.specs.declared.Refusal.{Refusal}
+use Rattle.order.specs.Order.{number_of}
 use Rattle.network.specs.Widths.{width_ok}
 use Rattle.moves.specs.Turn.{number_at}
-use Rattle.dials.specs.declared.Top.{Top}
-use Rattle.dials.specs.declared.Top.TheVariants.{Number, Nothing, Refused}
-
-abbrev pub larger : ℕ → ℕ → ℕ
-larger a b = cond (nat_le a b) b a
 
 -- one more than the highest number that exit i has dealt where its yields add up to s, and 0 where it has dealt none
 unfoldable pub past_at : ℕ → ℕ → ℕ → ℕ
@@ -16,7 +13,18 @@ past_at w i s = cond (s == 0) 0 (number_at w i (s - 1) + 1)
 -- of the exits below n
 unfoldable pub past_below : ℕ → List ℕ → ℕ → ℕ
 past_below w sums zero = 0
-past_below w sums (suc n) = larger (past_below w sums n) (past_at w n (slice_index sums n))
+past_below w sums (suc n) = max (past_below w sums n) (past_at w n (slice_index sums n))
+
+-- what is answered: the highest number, that nothing was dealt, or the number of the refusal
+pub data Top : Type 0 where
+  Number : ℕ → Top
+  Nothing : Top
+  Refused : ℕ → Top
+
+abbrev pub top_by : Result (Option ℕ) Refusal → Top
+top_by (Ok (Some n)) = Number n
+top_by (Ok None) = Nothing
+top_by (Err e) = Refused (number_of e)
 
 abbrev pub top_past : ℕ → Top
 top_past n = cond (n == 0) Nothing (Number (n - 1))

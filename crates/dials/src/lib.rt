@@ -4,11 +4,12 @@
 
 ghost use Rattle.std.specs.Prelude.{◌≡◌, ◌<◌, ◌≤◌};
 ghost use Rattle.dials.specs.Dials.{open_dial, advance_of, poll_of};
-ghost use Rattle.dials.specs.Highest.{larger, past_at, past_below, highest_of};
+ghost use Rattle.dials.specs.Highest.{top_by, past_at, past_below, highest_of};
 
 use board::EXITS;
+use order::Refusal;
 
-#[derive(Clone, Copy)]
+#[derive(Clone, Copy, Debug, PartialEq, Eq)]
 pub struct Dial {
     pub now: u16,
     pub last: u16,
@@ -20,14 +21,6 @@ pub struct Dial {
 pub struct Polled {
     pub yielded: u16,
     pub dial: Dial,
-}
-
-// The highest number dealt, or that nothing was dealt.
-#[derive(Clone, Copy)]
-pub enum Top {
-    Number(u64),
-    Nothing,
-    Refused(u8),
 }
 
 impl Dial {
@@ -43,33 +36,33 @@ impl Dial {
     }
 
     // A number is dealt at the dial's exit.
+    #[tactic(auto, unfolding(crate::specs::Dials::advance_of))]
     pub fn advance(self) -> Dial
         ensures { result ≡ advance_of self }
     {
-        let now = std::num::wrapping_add_u16(self.now, 1);
         Dial {
-            now,
-            last: self.last,
-            sum: self.sum,
+            now: self.now.wrapping_add(1),
+            ..self
         }
     }
 
     // The numbers dealt since the last poll.
+    #[tactic(auto, unfolding(crate::specs::Dials::poll_of, crate::specs::Dials::yield_of))]
     pub fn poll(self) -> Polled
         ensures { result ≡ poll_of self }
     {
-        let yielded = std::num::wrapping_sub_u16(self.now, self.last);
-        let sum = std::num::wrapping_add_u32(self.sum, yielded as u32);
+        let yielded = self.now.wrapping_sub(self.last);
         let dial = Dial {
-            now: self.now,
             last: self.now,
-            sum,
+            sum: self.sum.wrapping_add(u32::from(yielded)),
+            ..self
         };
         Polled { yielded, dial }
     }
 }
 
 // One more than the highest number that an exit has dealt, and 0 where it has dealt none: below 64 · 2^32.
+#[tactic(auto, unfolding(crate::specs::Highest::past_at))]
 fn past_at(width: u16, exit: u16, sum: u32) -> u64
     requires { (width ≤ 64) × (exit < width) }
     ensures { result ≡ past_at width exit sum }
@@ -77,41 +70,28 @@ fn past_at(width: u16, exit: u16, sum: u32) -> u64
     if sum == 0 {
         return 0;
     }
-    let before = (width as u64) * ((sum as u64) - 1);
-    (exit as u64) + before + 1
+    u64::from(exit) + u64::from(width) * u64::from(sum - 1) + 1
 }
 
-fn larger_of(a: u64, b: u64) -> u64
-    ensures { result ≡ larger a b }
-{
-    if a <= b { b } else { a }
-}
-
+#[tactic(auto, using(crate::proofs::Past::past_more), unfolding(crate::specs::Highest::past_below))]
 fn past_all(width: u16, sums: [u32; EXITS]) -> u64
     requires { width ≤ 64 }
     ensures { result ≡ past_below width sums width }
 {
     let mut past: u64 = 0;
-    let mut i: u16 = 0;
-    while i < width {
-        let at = i as usize;
-        past = larger_of(past, past_at(width, i, sums[at]));
-        i += 1;
+    for exit in 0..width {
+        past = past.max(past_at(width, exit, sums[exit as usize]));
     }
     past
 }
 
-// The highest number dealt, from the sums of the yields of all exits below the width; refused by 1.
-pub fn highest(width: u16, sums: [u32; EXITS]) -> Top
-    ensures { result ≡ highest_of width sums }
+// The highest number dealt, from the sums of the yields of all exits below the width, or none where nothing was dealt; refused by 1.
+#[tactic(auto, using(network::proofs::Widths::width_small, crate::proofs::Past::highest_refused, crate::proofs::Past::highest_told))]
+pub fn highest(width: u16, sums: [u32; EXITS]) -> Result<Option<u64>, Refusal>
+    ensures { top_by result ≡ highest_of width sums }
 {
-    let allowed = network::width_ok(width);
-    if !allowed {
-        return Top::Refused(1);
+    if !network::width_ok(width) {
+        return Err(Refusal::Width);
     }
-    let past = past_all(width, sums);
-    if past == 0 {
-        return Top::Nothing;
-    }
-    Top::Number(past - 1)
+    Ok(past_all(width, sums).checked_sub(1))
 }

@@ -40,13 +40,13 @@ pub record OneAnswer : Type 0 where
   -- network
   pub width_ok : One network.specs.contracts.width_ok.ended network.proofs.width_ok.Reads.Learnt
   pub construction_ok : One network.specs.contracts.construction_ok.ended network.proofs.construction_ok.Reads.Learnt
-  pub open_refusal : One network.specs.contracts.open_refusal.ended network.proofs.open_refusal.Reads.Learnt
+  pub check_open : One network.specs.contracts.check_open.ended network.proofs.check_open.Reads.Learnt
   pub depth_of : One network.specs.contracts.depth_of.ended network.proofs.depth_of.Reads.Learnt
   pub row : One network.specs.contracts.row.ended network.proofs.row.Reads.Learnt
   pub place_of : One network.specs.contracts.place_of.ended network.proofs.place_of.Reads.Learnt
   -- sheets; a view is the bytes that it shows and their place, and the place of no bytes is left open
   pub sheet : One sheets.specs.contracts.sheet.ended sheets.proofs.sheet.Reads.Learnt
-  pub view_refusal : One sheets.specs.contracts.view_refusal.ended sheets.proofs.view_refusal.Reads.Learnt
+  pub check_view : One sheets.specs.contracts.check_view.ended sheets.proofs.check_view.Reads.Learnt
   pub view : OneBy sheets.specs.contracts.view.ended (λ κs r s. (r.now ≡ s.now) × ((r.now ≡ [] → ⊥) → r.ref_ptr ≡ s.ref_ptr)) sheets.proofs.view.Reads.Learnt
   -- run
   pub opening : One run.specs.contracts.Run.«open».ended run.proofs.Run.«open».Reads.Learnt
@@ -68,7 +68,7 @@ pub record OneAnswer : Type 0 where
   pub in_limits : One feed_sheet.specs.contracts.in_limits.ended feed_sheet.proofs.in_limits.Reads.Learnt
   pub is_unpaired : One feed_sheet.specs.contracts.is_unpaired.ended feed_sheet.proofs.is_unpaired.Reads.Learnt
   pub is_permutation : One feed_sheet.specs.contracts.is_permutation.ended feed_sheet.proofs.is_permutation.Reads.Learnt
-  pub feed_refusal : One feed_sheet.specs.contracts.refusal.ended feed_sheet.proofs.refusal.Reads.Learnt
+  pub feed_check : One feed_sheet.specs.contracts.check.ended feed_sheet.proofs.check.Reads.Learnt
   pub fed_at : One feed_sheet.specs.contracts.fed_at.ended feed_sheet.proofs.fed_at.Reads.Learnt
   -- feeds
   pub feed_opening : One feeds.specs.contracts.FeedRun.«open».ended feeds.proofs.FeedRun.«open».Reads.Learnt

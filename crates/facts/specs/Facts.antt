@@ -4,7 +4,7 @@ use Rattle.network.specs.Widths.{depth_of}
 use Rattle.network.specs.Rows.{row_of, sheet_of}
 use Rattle.rest.specs.Share.{share}
 use Rattle.run.specs.Run.{open_of, enter_of}
-use Rattle.outcome.specs.declared.Outcome.TheVariants.{Refused}
+use Rattle.outcome.specs.Outcome.{Refused}
 use Rattle.outcome.specs.Whole.{run_of}
 use Rattle.outcome.specs.Case.{case_bytes}
 use Rattle.text.specs.Text.{letters}

@@ -5,20 +5,16 @@ ghost use Rattle.gaps.specs.Gaps.{GapsIs};
 ghost use Rattle.feeds.specs.Feeds.{feed_sound};
 
 use feeds::FeedRun;
-use order::Filled;
+use order::Refusal;
 
 // The gap list, in front of what is lent: 9, 17.
-pub fn gap_list(run: FeedRun, out: &mut [u32]) -> Filled
+// Beside `gaps::gap_list`, from which it differs in whose soundness is judged: one generic function would want a trait of its own.
+#[tactic(auto, unfolding(gaps::specs::Gaps::gaps_no, order::specs::Order::first_of))]
+pub fn gap_list(run: FeedRun, out: &mut [u32]) -> Result<usize, Refusal>
     ensures { GapsIs (feed_sound run) run.width run.board out.old out.new result }
 {
-    let good = run.is_sound();
-    if !good {
-        return Filled {
-            refusal: 9,
-            filled: 0,
-        };
+    if !run.is_sound() {
+        return Err(Refusal::NotSound);
     }
-    let w = run.width as usize;
-    let n = run.board.entered as usize;
-    gaps::fill(w, &run.board.counts, n, out)
+    gaps::fill(run.width, &run.board, out)
 }

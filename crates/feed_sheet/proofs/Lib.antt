@@ -1,3 +1,3 @@
 pub mod Permutations
-mod Behind
+mod Seen
 pub mod Sheet

@@ -9,7 +9,7 @@ use native.Mathlib.Omega.{arith}
 use lib.Dec.{ltb, eqb}
 use lib.ListN.{length, get_or}
 use borrow.Author.Tests.{ltb-true, lt-ltb, eqb-true, eqb-false, ne_eqb, not-true}
-use Rattle.network.proofs.Feeds.{lt_or_le}
+use Rattle.std.proofs.lemmas.Bool.{cases_lt}
 use Rattle.network.proofs.Once.{Once}
 use Rattle.network.specs.Rows.{tabulate}
 use Rattle.network.proofs.Arrays.{length_tabulate, get_d_tabulate}
@@ -89,7 +89,7 @@ module _ (m : ℕ) (f : ℕ → ℕ) (o : Into (suc m) f) where
       let top = o.below m (omega arith) in
       ⊎_elim (λ (a : f m < m). a)
       (λ (a : m ≤ f m). absurd (let same = o.apart v m (omega arith) (omega arith) (omega arith) in omega arith))
-      (lt_or_le (f m) m)
+      (cases_lt (f m) m)
   below_at v l false q = let other = eqb-false (f v) m q in let low = o.below v (omega arith) in omega arith
 
   apart_at : (u v : ℕ) → u < m → v < m → (a b : Bool) → eqb (f u) m ≡ a → eqb (f v) m ≡ b → cond a (f m) (f u) ≡ cond b (f m) (f v) → u ≡ v

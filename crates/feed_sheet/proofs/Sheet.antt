@@ -1,17 +1,16 @@
 -- Laws of a lent sheet. In order: its rows, one after another; a sheet that is not refused. Assumes nothing.
-use mathlib.Core.Path.{◌≡◌, refl, sym}
-use mathlib.Core.Bool.{Bool, true, false, not, ◌&&◌, and-false, and-true}
+use mathlib.Core.Path.{◌≡◌, refl}
+use mathlib.Core.Bool.{Bool, true, false, ◌&&◌, and-true, and_assoc}
 use mathlib.Core.List.{List}
-use Prim.Native.Nat.{ℕ, zero, suc, ◌+◌, ◌-◌, ◌*◌, ◌/◌, ◌%◌, ◌<◌, ◌≤◌}
-use native.Mathlib.Numerals.{add-one}
+use Prim.Native.Nat.{ℕ, zero, suc, ◌+◌, ◌-◌, ◌*◌, ◌/◌, ◌<◌, ◌≤◌}
 use native.Mathlib.Nat.{mul-le-mul}
 use native.Mathlib.Decide.{ℕ_discrete}
 use native.Mathlib.Omega.{arith}
-use lib.Dec.{eqb, leb, ltb}
-use lib.ListN.{length, get_or, take, drop, length-take, length-drop}
+use lib.ListN.{length, get_or, length-take, length-drop}
 use lib.Seq.{get_or-take, get_or-drop}
-use borrow.Author.Tests.{leb-true, lt-ltb, ltb-false, eqb-false, not-false}
-use Rattle.order.proofs.Order.{cleared}
+use Rattle.std.specs.List.{list_all, range_with_len}
+use Rattle.std.proofs.lemmas.Bool.Decides.{nat_tests}
+use Rattle.order.specs.Order.{first_of}
 use Rattle.network.proofs.Rows.{row_end}
 use Rattle.network.proofs.Once.{Once}
 use Rattle.board.proofs.Lists.{and_left, and_right}
@@ -19,33 +18,19 @@ use Rattle.feed_sheet.specs.Limits.{in_limits, permutation}
 use Rattle.feed_sheet.specs.Sheet.{unpaired, fed_at, row_at, rows_ok, feed_no}
 use Rattle.feed_sheet.proofs.Permutations.{permutation_once}
 
--- ---- a row r is judged; b is what is found of it
-module _ (w : ℕ) (sheet : List ℕ) (r : ℕ) (b : Bool) (judged : b ≡ permutation (take (r * w + w - r * w) (drop (r * w) sheet))) where
-  this : permutation (row_at w sheet r) ≡ b
-  this =
-      let e : r * w + w - r * w ≡ w = omega arith in
-      sym (rw e at judged)
+-- ---- the rows judged in order
+pub row_wide : (w L : ℕ) → (L + 1) * w - L * w ≡ w
+row_wide w L = grind arith
 
-  pub rows_fault : (n : ℕ) → r < n → b ≡ false → false ≡ rows_ok w sheet n
-  unfolding rows_ok
-  rows_fault zero l h = absurd (omega arith)
-  rows_fault (suc n) l h = elim (ℕ_discrete r n) [
-    | yes e ↦ rw (← e, this, h, and-false)
-    | no m ↦ rw (← rows_fault n (omega arith) h)
-  ]
+all_more : (test : ℕ → Bool) (n a j : ℕ) → a + n ≡ j → list_all test (range_with_len a (suc n)) ≡ (list_all test (range_with_len a n) && test j)
+all_more test zero a j e = let f : a ≡ j = omega arith in rw (f, and-true)
+all_more test (suc n) a j e = rw (all_more test n (a + 1) j (omega arith), and_assoc)
 
-  pub rows_more : rows_ok w sheet r ≡ true → b ≡ true → rows_ok w sheet (r + 1) ≡ true
-  unfolding rows_ok
-  rows_more k h = rw (add-one r, k, this, h)
-
-pub rows_none : (w : ℕ) (sheet : List ℕ) → rows_ok w sheet 0 ≡ true
+pub rows_ok_list : (w : ℕ) (sheet : List ℕ) (n : ℕ) → list_all (λ L. permutation (row_at w sheet L)) (range_with_len 0 n) ≡ rows_ok w sheet n
 unfolding rows_ok
-rows_none w sheet = refl
-
-pub rows_all : (w : ℕ) (sheet : List ℕ) (r n : ℕ) → rows_ok w sheet r ≡ true → r ≤ n → n ≤ r → true ≡ rows_ok w sheet n
-rows_all w sheet r n k l m =
-    let e : r ≡ n = omega arith in
-    sym (rw e at k)
+rows_ok_list w sheet zero = refl
+rows_ok_list w sheet (suc n) =
+    rw (all_more (λ L. permutation (row_at w sheet L)) n 0 n (omega arith), rows_ok_list w sheet n)
 
 -- ---- what a width and a depth have, of a sheet or of a record
 pub record Within (w d : ℕ) : Type 0 where
@@ -55,12 +40,7 @@ pub record Within (w d : ℕ) : Type 0 where
 
 pub within_limits : (w d : ℕ) → in_limits w d ≡ true → Within w d
 within_limits w d h =
-    let rest = and_right (leb 1 w) (leb w 64 && leb d 36) h in
-    record {
-      some = leb-true 1 w (and_left (leb 1 w) (leb w 64 && leb d 36) h);
-      wide = leb-true w 64 (and_left (leb w 64) (leb d 36) rest);
-      deep = leb-true d 36 (and_right (leb w 64) (leb d 36) rest);
-    }
+    record { some = grind (arith, nat_tests); wide = grind (arith, nat_tests); deep = grind (arith, nat_tests) }
 
 pub record Sized (w d : ℕ) : Type 0 where
   pub within : Within w d
@@ -68,16 +48,12 @@ pub record Sized (w d : ℕ) : Type 0 where
 
 pub sized : (w d : ℕ) → in_limits w d ≡ true → unpaired w d ≡ false → Sized w d
 unfolding unpaired
-sized w d size pairs = record {
-  within = within_limits w d size;
-  even = λ l.
-      let apart : eqb (w % 2) 1 ≡ false = rw (lt-ltb 0 d l, and-true) at pairs in
-      omega (arith, eqb-false (w % 2) 1 apart);
-}
+sized w d size pairs = record { within = within_limits w d size; even = λ l. grind (arith, nat_tests) }
 
 -- the cells of at most 36 layers at width at most 64 have their toggles
 pub sized_room : {w d : ℕ} → Sized w d → d * (w / 2) ≤ 1152
-sized_room {w} {d} s = mul-le-mul {n₁ = d} {m₁ = w / 2} {n₂ = 36} {m₂ = 32} s.within.deep (omega (arith, s.within.wide))
+sized_room {w} {d} s =
+    mul-le-mul {n₁ = d} {m₁ = w / 2} {n₂ = 36} {m₂ = 32} s.within.deep (omega (arith, s.within.wide))
 
 -- ---- a sheet that is not refused
 pub record Judged (w d : ℕ) (sheet : List ℕ) : Type 0 where
@@ -87,18 +63,13 @@ pub record Judged (w d : ℕ) (sheet : List ℕ) : Type 0 where
   pub rows : rows_ok w sheet (d + 1) ≡ true
 
 pub judged : (w d : ℕ) (sheet : List ℕ) → feed_no w d sheet ≡ 0 → Judged w d sheet
-unfolding feed_no
-judged w d sheet h =
-    let size = cleared (not (in_limits w d)) 21 _ h in
-    let pairs = cleared (unpaired w d) 19 _ size.then in
-    let long = cleared (ltb (length sheet) ((d + 1) * w)) 2 _ pairs.then in
-    let rows = cleared (not (rows_ok w sheet (d + 1))) 20 _ long.then in
-    record {
-      size = not-false (in_limits w d) size.fails;
-      pairs = pairs.fails;
-      long = ltb-false (length sheet) ((d + 1) * w) long.fails;
-      rows = not-false (rows_ok w sheet (d + 1)) rows.fails;
-    }
+unfolding feed_no first_of
+judged w d sheet h = record {
+  size = grind (arith, nat_tests);
+  pairs = grind (arith, nat_tests);
+  long = grind (arith, nat_tests);
+  rows = grind (arith, nat_tests);
+}
 
 rows_at : (w : ℕ) (sheet : List ℕ) (n : ℕ) → rows_ok w sheet n ≡ true → (L : ℕ) → L < n → permutation (row_at w sheet L) ≡ true
 unfolding rows_ok

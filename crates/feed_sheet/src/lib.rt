@@ -3,30 +3,27 @@
 #![tactic(auto)]
 
 ghost use Rattle.std.specs.Prelude.{◌≡◌, not, ◌+◌, ◌*◌, ◌<◌, ◌≤◌, length};
+ghost use Rattle.order.specs.Order.{refused_by};
 ghost use Rattle.feed_sheet.specs.Limits.{in_limits, permutation};
 ghost use Rattle.feed_sheet.specs.Sheet.{unpaired, fed_at, rows_ok, feed_no};
+
+use order::Refusal;
 
 pub const MAX_WIDTH: usize = network::MAX_WIDTH as usize;
 
 pub const MAX_DEPTH: usize = 36;
 
-// Does the row hold every number below its length once? Read from its end: a byte is looked for among those behind it.
+// Does the row hold every number below its length once?
 pub fn is_permutation(row: &[u8]) -> bool
     ensures { result ≡ permutation row.now }
 {
-    let n = row.len();
     let mut seen = [false; 256];
-    let mut i = n;
-    while 0 < i {
-        i -= 1;
-        let b = row[i] as usize;
-        if n <= b {
+    for b in row {
+        let place = usize::from(*b);
+        if row.len() <= place || seen[place] {
             return false;
         }
-        if seen[b] {
-            return false;
-        }
-        seen[b] = true;
+        seen[place] = true;
     }
     true
 }
@@ -35,14 +32,15 @@ pub fn is_permutation(row: &[u8]) -> bool
 pub fn in_limits(width: usize, depth: usize) -> bool
     ensures { result ≡ in_limits width depth }
 {
-    (1 <= width) & ((width <= MAX_WIDTH) & (depth <= MAX_DEPTH))
+    (1..=MAX_WIDTH).contains(&width) && depth <= MAX_DEPTH
 }
 
 // An odd width with layers.
+#[tactic(auto, unfolding(crate::specs::Sheet::unpaired))]
 pub fn is_unpaired(width: u16, depth: u16) -> bool
     ensures { result ≡ unpaired width depth }
 {
-    (width % 2 == 1) & (0 < depth)
+    width % 2 == 1 && 0 < depth
 }
 
 // Are all rows permutations?
@@ -50,47 +48,37 @@ fn rows_ok(sheet: &[u8], width: usize, rows: usize) -> bool
     requires { rows * width ≤ length sheet.now }
     ensures { result ≡ rows_ok width sheet.now rows }
 {
-    let mut row = 0;
-    while row < rows {
-        let at = row * width;
-        let end = at + width;
-        if !is_permutation(&sheet[at..end]) {
-            return false;
-        }
-        row += 1;
-    }
-    true
+    (0..rows).all(|row| is_permutation(&sheet[row * width..(row + 1) * width]))
 }
 
-// How a run call judges the sheet that it is lent: 22, 20, 3, 21, or 0.
-pub fn refusal(sheet: &[u8], width: u16, depth: u16) -> u8
-    ensures { result ≡ feed_no width depth sheet.now }
+// How a run call judges the sheet that it is lent: refused by 22, 20, 3 and 21.
+#[tactic(auto, unfolding(crate::specs::Sheet::feed_no, order::specs::Order::first_of))]
+pub fn check(sheet: &[u8], width: u16, depth: u16) -> Result<(), Refusal>
+    ensures { refused_by result ≡ feed_no width depth sheet.now }
 {
-    let w = width as usize;
-    let d = depth as usize;
+    let w = usize::from(width);
+    let d = usize::from(depth);
     if !in_limits(w, d) {
-        return 22;
+        return Err(Refusal::PastLimits);
     }
     if is_unpaired(width, depth) {
-        return 20;
+        return Err(Refusal::Unequal);
     }
     let rows = d + 1;
     if sheet.len() < rows * w {
-        return 3;
+        return Err(Refusal::SheetShort);
     }
     if !rows_ok(sheet, w, rows) {
-        return 21;
+        return Err(Refusal::NoPermutation);
     }
-    0
+    Ok(())
 }
 
 // Where the sheet sends a wire; past its end, 0.
+#[tactic(auto, unfolding(crate::specs::Sheet::fed_at))]
 pub fn fed_at(sheet: &[u8], width: u16, level: u16, wire: u16) -> u8
     ensures { result ≡ fed_at width sheet.now level wire }
 {
-    let at = (level as usize) * (width as usize) + (wire as usize);
-    if at < sheet.len() {
-        return sheet[at];
-    }
-    0
+    let at = usize::from(level) * usize::from(width) + usize::from(wire);
+    sheet.get(at).copied().unwrap_or(0)
 }

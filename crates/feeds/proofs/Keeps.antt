@@ -1,14 +1,15 @@
--- What every call keeps. In order: a sound run's parts; the run as it opens; shape and soundness are kept, whatever sheet is lent.
+-- What every call keeps. In order: a sound run's parts; the run as it opens; what a call that is not refused by its sheet or by 9 has; shape and soundness are kept, whatever sheet is lent.
 -- Assumes nothing.
 use mathlib.Core.Path.{◌≡◌, refl}
 use mathlib.Core.Bool.{true, false, not, ◌&&◌}
 use mathlib.Core.List.{List}
-use Prim.Native.Nat.{ℕ}
+use Prim.Native.Nat.{ℕ, ◌≤◌}
 use native.Mathlib.Omega.{arith}
 use lib.Dec.{eqb}
 use borrow.Author.Tests.{eqb-true, not-true}
+use Rattle.std.proofs.lemmas.Bool.Decides.{nat_tests}
 use Rattle.board.specs.declared.Board.{Board}
-use Rattle.board.specs.Board.{place_at}
+use Rattle.board.specs.Board.{place_at, count_at}
 use Rattle.board.specs.Sound.{sound_board}
 use Rattle.board.proofs.Lists.{and_left, and_right, cond_case}
 use Rattle.board.proofs.Sound as board
@@ -17,9 +18,7 @@ use Rattle.feed_sheet.specs.Limits.{in_limits}
 use Rattle.feed_sheet.specs.Sheet.{unpaired, feed_no}
 use Rattle.feed_sheet.proofs.Sheet.{Sized, sized, judged, fed_once}
 use Rattle.feeds.specs.declared.FeedRun.{FeedRun}
-use Rattle.feeds.specs.declared.FeedEntered.{FeedEntered}
-use Rattle.feeds.specs.declared.FeedTurned.{FeedTurned}
-use Rattle.feeds.specs.Feeds.{fresh_feed, feed_sound, with_board, lent_no, feed_enter_of, feeds_of, exit_of, feed_turn_of}
+use Rattle.feeds.specs.Feeds.{FeedEntered, FeedTurned, fresh_feed, feed_sound, with_board, lent_no, judged_no, feed_enter_of, feeds_of, exit_of, feed_turn_of}
 
 -- the arrays are as long as their types say
 abbrev pub Shaped : FeedRun → Type 0
@@ -60,6 +59,20 @@ fresh_sound w d sheet h =
 pub refused_unsound : feed_sound (fresh_feed 0 0) ≡ false
 unfolding feed_sound fresh_feed
 refused_unsound = refl
+
+-- ---- a call that neither its sheet nor 9 refuses
+pub judged_sound : (x : FeedRun) (sheet : List ℕ) → 0 ≡ judged_no x sheet → feed_sound x ≡ true
+judged_sound x sheet h = grind (arith, nat_tests)
+
+-- what a sound run has entered and dealt, and how wide it is
+pub few_entered : (x : FeedRun) → feed_sound x ≡ true → x.board.entered ≤ 1000000
+few_entered x h = (board.parts x.width x.depth x.board (parts x h).board).few
+
+pub few_counts : (x : FeedRun) → feed_sound x ≡ true → (i : ℕ) → count_at x.board i ≤ 1000000
+few_counts x h i = omega (arith, board.count_le x.width x.depth x.board i (parts x h).board, few_entered x h)
+
+pub most_width : (x : FeedRun) → feed_sound x ≡ true → x.width ≤ 64
+most_width x h = (sized_parts (parts x h)).within.wide
 
 -- ---- the sheet leads a token inside to a place of the network
 pub leads : (sheet : List ℕ) (x : FeedRun) (t : ℕ) → lent_no x sheet ≡ 0

@@ -2,12 +2,13 @@
 // or its own order refuses gives the record back as it was. Every call answers every argument.
 #![tactic(auto)]
 
-ghost use Rattle.std.specs.Prelude.{◌≡◌, true};
-ghost use Rattle.feed_sheet.specs.Sheet.{feed_no};
-ghost use Rattle.feeds.specs.Feeds.{fresh_feed, feed_open_of, feed_sound, with_board, lent_no, feed_enter_of, feed_turn_of};
+ghost use Rattle.std.specs.Prelude.{◌≡◌};
+ghost use Rattle.order.specs.Order.{refused_by};
+ghost use Rattle.feeds.specs.Feeds.{feed_opened, feed_entered, feed_turned, fresh_feed, feed_open_of, feed_sound, judged_no, feed_enter_of, feed_turn_of};
 
 use board::Board;
-use moves::{Moved, Turn};
+use moves::Turn;
+use order::{After, Refusal};
 
 #[derive(Clone, Copy)]
 pub struct FeedRun {
@@ -16,157 +17,110 @@ pub struct FeedRun {
     pub board: Board,
 }
 
-#[derive(Clone, Copy)]
-pub struct FeedOpened {
-    pub refusal: u8,
-    pub run: FeedRun,
-}
-
-#[derive(Clone, Copy)]
-pub struct FeedEntered {
-    pub refusal: u8,
-    pub run: FeedRun,
-}
-
-#[derive(Clone, Copy)]
-pub struct FeedTurned {
-    pub answer: Turn,
-    pub run: FeedRun,
-}
-
+#[tactic(auto, unfolding(crate::specs::Feeds::fresh_feed))]
 fn made(width: u16, depth: u16) -> FeedRun
     ensures { result ≡ fresh_feed width depth }
 {
-    let board = board::fresh();
     FeedRun {
         width,
         depth,
-        board,
+        board: board::fresh(),
     }
-}
-
-fn moved_on(run: FeedRun, moved: Moved) -> FeedTurned
-    ensures { result ≡ record { answer = moved.answer; run = with_board run moved.board } }
-{
-    let answer = moved.answer;
-    let board = moved.board;
-    FeedTurned {
-        answer,
-        run: FeedRun {
-            width: run.width,
-            depth: run.depth,
-            board,
-        },
-    }
-}
-
-// A token enters a sound run, whose sheet is not refused.
-fn enter_judged(run: FeedRun, token: u16, wire: u16, sheet: &[u8]) -> FeedEntered
-    requires { (lent_no run sheet.now ≡ 0) × (feed_sound run ≡ true) }
-    ensures { result ≡ feed_enter_of sheet.now run token wire }
-{
-    let board = run.board;
-    let entered = moves::enter(board, run.width, token, wire);
-    let after = entered.board;
-    FeedEntered {
-        refusal: entered.refusal,
-        run: FeedRun {
-            width: run.width,
-            depth: run.depth,
-            board: after,
-        },
-    }
-}
-
-// A turn in a sound run, whose sheet is not refused.
-fn turn_judged(run: FeedRun, token: u16, sheet: &[u8]) -> FeedTurned
-    requires { (lent_no run sheet.now ≡ 0) × (feed_sound run ≡ true) }
-    ensures { result ≡ feed_turn_of sheet.now run token }
-{
-    let board = run.board;
-    let width = run.width;
-    let places = board.places;
-    let place = moves::place_at(places, token);
-    let refusal = moves::turn_refusal(token, place);
-    if refusal != 0 {
-        return FeedTurned {
-            answer: Turn::Refused(refusal),
-            run,
-        };
-    }
-    if place.level < run.depth {
-        let feeds = feed_sheet::fed_at(sheet, width, place.level, place.wire);
-        let passed = moves::pass(board, width, token, place, feeds);
-        return moved_on(run, passed);
-    }
-    let exit = feed_sheet::fed_at(sheet, width, run.depth, place.wire);
-    let dealt = moves::deal(board, width, token, exit as u16);
-    moved_on(run, dealt)
 }
 
 impl FeedRun {
     // A run with nothing entered; refused by 22, 20, 3, 21 of the sheet, with a record of width 0 and depth 0, which is not sound.
-    pub fn open(width: u16, depth: u16, sheet: &[u8]) -> FeedOpened
-        ensures { result ≡ feed_open_of width depth sheet.now }
+    #[tactic(auto, using(order::proofs::Numbers::number_some), unfolding(crate::specs::Feeds::feed_open_of))]
+    pub fn open(width: u16, depth: u16, sheet: &[u8]) -> After<FeedRun, ()>
+        ensures { feed_opened result ≡ feed_open_of width depth sheet.now }
     {
-        let refusal = feed_sheet::refusal(sheet, width, depth);
-        if refusal == 0 {
-            let run = made(width, depth);
-            return FeedOpened { refusal, run };
+        match feed_sheet::check(sheet, width, depth) {
+            Ok(()) => After {
+                state: made(width, depth),
+                answer: Ok(()),
+            },
+            Err(refusal) => After {
+                state: made(0, 0),
+                answer: Err(refusal),
+            },
         }
-        let run = made(0, 0);
-        FeedOpened { refusal, run }
     }
 
+    #[tactic(auto, unfolding(crate::specs::Feeds::feed_sound))]
     pub fn is_sound(self) -> bool
         ensures { result ≡ feed_sound self }
     {
-        let width = self.width;
-        let depth = self.depth;
-        let board = self.board;
-        let within = feed_sheet::in_limits(width as usize, depth as usize);
-        let odd = feed_sheet::is_unpaired(width, depth);
-        let good = board::is_sound(board, width, depth);
+        let within = feed_sheet::in_limits(usize::from(self.width), usize::from(self.depth));
+        let odd = feed_sheet::is_unpaired(self.width, self.depth);
+        let good = board::is_sound(&self.board, self.width, self.depth);
         within & !odd & good
     }
 
-    // A token enters on a wire of level 0; refused by 22, 20, 3, 21 of the sheet, then 9, 4, 5, 6, 7.
-    pub fn enter(self, token: u16, wire: u16, sheet: &[u8]) -> FeedEntered
-        ensures { result ≡ feed_enter_of sheet.now self token wire }
+    // May a call be made with this sheet? Refused by 22, 20, 3, 21 of the sheet, then 9.
+    #[tactic(auto, using(order::proofs::Numbers::number_some))]
+    fn check(self, sheet: &[u8]) -> Result<(), Refusal>
+        ensures { refused_by result ≡ judged_no self sheet.now }
     {
-        let refusal = feed_sheet::refusal(sheet, self.width, self.depth);
-        if refusal != 0 {
-            return FeedEntered { refusal, run: self };
+        feed_sheet::check(sheet, self.width, self.depth)?;
+        if !self.is_sound() {
+            return Err(Refusal::NotSound);
         }
-        let good = self.is_sound();
-        if good {
-            return enter_judged(self, token, wire, sheet);
+        Ok(())
+    }
+
+    // A token enters on a wire of level 0; refused by 22, 20, 3, 21 of the sheet, then 9, 4, 5, 6, 7.
+    #[tactic(auto, using(order::proofs::Numbers::number_some), unfolding(crate::specs::Feeds::feed_enter_of, moves::specs::Enter::enter_with, moves::specs::Enter::enter_no, order::specs::Order::first_of))]
+    pub fn enter(self, token: u16, wire: u16, sheet: &[u8]) -> After<FeedRun, ()>
+        ensures { feed_entered result ≡ feed_enter_of sheet.now self token wire }
+    {
+        if let Err(refusal) = self.check(sheet) {
+            return After {
+                state: self,
+                answer: Err(refusal),
+            };
         }
-        FeedEntered {
-            refusal: 9,
-            run: self,
+        let entered = moves::enter(self.board, self.width, token, wire);
+        After {
+            state: FeedRun {
+                board: entered.state,
+                ..self
+            },
+            answer: entered.answer,
         }
     }
 
     // A token inside passes its next cell, or is dealt a number at the exit that the exit row names for its wire; refused by 22, 20,
     // 3, 21 of the sheet, then 9, 4, 8.
-    pub fn turn(self, token: u16, sheet: &[u8]) -> FeedTurned
-        ensures { result ≡ feed_turn_of sheet.now self token }
+    #[tactic(auto, using(order::proofs::Numbers::number_some), unfolding(crate::specs::Feeds::feed_turn_of, crate::specs::Feeds::feeds_of, crate::specs::Feeds::exit_of, moves::specs::Turn::turn_with, moves::specs::Turn::turn_no, board::specs::Board::place_at, order::specs::Order::first_of))]
+    pub fn turn(self, token: u16, sheet: &[u8]) -> After<FeedRun, Turn>
+        ensures { feed_turned result ≡ feed_turn_of sheet.now self token }
     {
-        let refused = feed_sheet::refusal(sheet, self.width, self.depth);
-        if refused != 0 {
-            return FeedTurned {
-                answer: Turn::Refused(refused),
-                run: self,
+        if let Err(refused) = self.check(sheet) {
+            return After {
+                state: self,
+                answer: Err(refused),
             };
         }
-        let sound = self.is_sound();
-        if sound {
-            return turn_judged(self, token, sheet);
+        let place = moves::place_at(&self.board.places, token);
+        if let Err(refusal) = moves::check_turn(token, place) {
+            return After {
+                state: self,
+                answer: Err(refusal),
+            };
         }
-        FeedTurned {
-            answer: Turn::Refused(9),
-            run: self,
+        let moved = if place.level < self.depth {
+            let feeds = feed_sheet::fed_at(sheet, self.width, place.level, place.wire);
+            moves::pass(self.board, self.width, token, feeds)
+        } else {
+            let exit = feed_sheet::fed_at(sheet, self.width, self.depth, place.wire);
+            moves::deal(self.board, self.width, token, u16::from(exit))
+        };
+        After {
+            state: FeedRun {
+                board: moved.board,
+                ..self
+            },
+            answer: Ok(moved.turn),
         }
     }
 }

@@ -6,7 +6,7 @@ use lib.ListN.{length}
 use Rattle.run.specs.declared.Run.{Run}
 use Rattle.run.specs.Run.{open_of}
 use Rattle.records.specs.declared.Record.{Record}
-use Rattle.records.specs.declared.Read.TheVariants.{Got}
+use Rattle.records.specs.Reading.{Got}
 use Rattle.outcome.specs.Schedule.{record_at}
 use Rattle.outcome.proofs.Told.{record_none}
 use Rattle.promise.specs.History.{Call, Deal, After, call_of, calls_of, calls_by, history}

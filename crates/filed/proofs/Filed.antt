@@ -13,8 +13,7 @@ use Rattle.network.specs.Widths.{width_ok, construction_ok, open_no}
 use Rattle.board.specs.Sound.{inside_sum}
 use Rattle.board.proofs.Lists.{cond_case}
 use Rattle.run.specs.declared.Run.{Run}
-use Rattle.outcome.specs.declared.Outcome.{Outcome}
-use Rattle.outcome.specs.declared.Outcome.TheVariants.{Accepted, Refused}
+use Rattle.outcome.specs.Outcome.{Outcome, Accepted, Refused}
 use Rattle.outcome.specs.Course.{Course, course, at_start, Step}
 use Rattle.outcome.specs.Schedule.{Told, stopped, accepted, tell}
 use Rattle.outcome.proofs.Told.{Fault, Stepped, told_from}

@@ -4,9 +4,7 @@ use mathlib.Core.Path.{◌≡◌, refl}
 use mathlib.Core.List.{List, [], ◌∷◌, ◌++◌, append_assoc, append-nil}
 use native.Mathlib.Omega.{arith}
 use lib.ListN.{length, length-append}
-use Rattle.moves.specs.declared.Turn.{Turn}
-use Rattle.moves.specs.declared.Turn.TheVariants.{Passed, Dealt, Refused}
-use Rattle.moves.specs.Answer.{values_of}
+use Rattle.moves.specs.Answer.{Answer, Passed, Dealt, Refused, values_of}
 use Rattle.records.specs.Reading.{length_of}
 use Rattle.records.specs.Writing.{size_of}
 use Rattle.records.proofs.Writing.{length_bytes_of}
@@ -19,7 +17,7 @@ unfolding reports_of
 reports_append [] m = refl
 reports_append (d ∷ l) m = rw (append_assoc, reports_append l m)
 
-pub reports_deal_of : (t : ℕ) (a : Turn) → report_of t a ≡ reports_of (deal_of t (values_of a))
+pub reports_deal_of : (t : ℕ) (a : Answer) → report_of t a ≡ reports_of (deal_of t (values_of a))
 unfolding report_of reports_of values_of
 reports_deal_of t (Passed l v L c o) = refl
 reports_deal_of t (Dealt i n) = rw append-nil

@@ -3,8 +3,7 @@
 use Rattle.std.specs.Prelude.{ℕ, zero, suc, ◌+◌, List, [], ◌∷◌, ◌++◌, length}
 use Rattle.records.specs.declared.Record.{Record}
 use Rattle.records.specs.declared.Record.TheVariants.{Open, Enter, Turn, Close, Number}
-use Rattle.records.specs.declared.Read.{Read}
-use Rattle.records.specs.declared.Read.TheVariants.{Got, Refused as Unread}
+use Rattle.records.specs.Reading.{Read, Got, Refused as Unread}
 use Rattle.outcome.specs.Schedule.{record_at}
 use Rattle.promise.specs.History.{Call, enter, turn}
 

@@ -1,4 +1,4 @@
 pub mod Gaps
 pub mod Missing
-mod Counts
+mod Walk
 pub mod Call

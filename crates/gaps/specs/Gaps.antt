@@ -1,7 +1,7 @@
 -- The gap list (01, "A run"; 02, P1). Definitions only. Assumes nothing.
-use Rattle.std.specs.Prelude.{ℕ, zero, suc, ◌/◌, ◌%◌, ◌≡◌, Bool, not, cond, List, [], ◌∷◌, ◌++◌, eqb, leb, ltb, length}
-use Rattle.order.specs.declared.Filled.{Filled}
-use Rattle.order.specs.Order.{◌⟶◌, first_of, filled_of, over}
+use Rattle.std.specs.Prelude.{ℕ, zero, suc, ◌/◌, ◌%◌, ◌≡◌, Bool, not, cond, List, [], ◌∷◌, ◌++◌, eqb, leb, ltb, length, Result}
+use Rattle.order.specs.declared.Refusal.{Refusal}
+use Rattle.order.specs.Order.{◌⟶◌, first_of, filled_by, filled_of, over}
 use Rattle.board.specs.declared.Board.{Board}
 use Rattle.board.specs.Board.{count_at}
 
@@ -23,6 +23,6 @@ unfoldable pub gaps_no : Bool → ℕ → Board → ℕ → ℕ
 gaps_no good w x room = first_of ((not good ⟶ 9) ∷ (ltb room (length (gaps_of w x)) ⟶ 17) ∷ [])
 
 -- what is answered, and the lent numbers after it: the places after the list stay, and a refusal changes nothing
-pub record GapsIs (good : Bool) (w : ℕ) (x : Board) (before after : List ℕ) (r : Filled) : Type 0 where
-  pub answer : r ≡ filled_of (gaps_no good w x (length before)) (length (gaps_of w x))
+pub record GapsIs (good : Bool) (w : ℕ) (x : Board) (before after : List ℕ) (r : Result ℕ Refusal) : Type 0 where
+  pub answer : filled_by r ≡ filled_of (gaps_no good w x (length before)) (length (gaps_of w x))
   pub numbers : after ≡ cond (eqb (gaps_no good w x (length before)) 0) (over (gaps_of w x) before) before

@@ -1,3 +1,3 @@
 pub mod Gaps
 pub mod Missing
-pub mod Counts
+pub mod Walk

@@ -1,4 +1,1 @@
-pub mod Seats
-pub mod Table
 pub mod Held
-pub mod Steps

@@ -1,228 +1,96 @@
-// The calls on a run that is known to be sound, in place: its toggles, its exit counts and the places of its tokens are arrays of
-// numbers, lent to each step, and what is no array goes by value in a frame. The places that the wires feed stand in a table that is
-// filled as the run opens, so that a turn reads one byte of it. Who calls keeps frame and arrays together; no step refuses by 9.
+// The calls on a run that is known to be sound, in place: a run is wired up as it opens, and then each call moves it where it stands.
+// Beside it are its depth, how many tokens are inside, and a table of the places that the wires feed, so that a turn reads one byte
+// of it. No call refuses by 9.
 #![tactic(auto)]
 
-ghost use Rattle.std.specs.Prelude.{◌≡◌, ◌<◌, ◌≤◌, length, get_or};
-ghost use Rattle.board.specs.Board.{free_place};
-ghost use Rattle.in_place.specs.Seats.{seats, Sized, places_in, Seated};
-ghost use Rattle.in_place.specs.Table.{wire_at, Wired, PutRow};
-ghost use Rattle.in_place.specs.Held.{lent, blank, Framed};
-ghost use Rattle.in_place.specs.Steps.{Opens, Enters, Turnable, Turns, CanPass, Passes, CanDeal, Deals};
+ghost use Rattle.std.specs.Prelude.{◌≡◌, ◌<◌, ◌≤◌, true, ℕ, [], get_or};
+ghost use Rattle.network.specs.Widths.{depth_of};
+ghost use Rattle.network.specs.Rows.{row_array, place_of};
+ghost use Rattle.board.specs.Board.{max_entered, place_at, count_at};
+ghost use Rattle.board.specs.Sound.{inside_sum};
+ghost use Rattle.moves.specs.Enter.{entering};
+ghost use Rattle.moves.specs.Turn.{passing, dealing, moved};
+ghost use Rattle.run.specs.Run.{opened, entered, turned, fresh, open_of, sound, depth_in, enter_of, turn_of};
+ghost use Rattle.in_place.specs.Held.{Wired, Steady, after};
 
-use board::{CELLS, EXITS, Place, TOKENS};
+use board::{Board, Place};
 use moves::Turn;
+use order::Refusal;
+use run::Run;
 
-// The bytes of the table: a row of 64 for each of 36 layers, the most that a build has.
-pub const TABLE: usize = 2304;
+// The layers of the deepest build; the table has a row for each.
+const LAYERS: usize = 36;
 
-// What of a run is no array, with its depth; `within` counts the tokens inside.
-#[derive(Clone, Copy)]
-pub struct Frame {
-    pub width: u16,
-    pub construction: u16,
-    pub depth: u16,
-    pub entered: u32,
+// A run wired up; `within` counts the tokens inside.
+#[derive(Drop)]
+pub struct WiredRun {
+    pub run: Run,
     pub within: u32,
+    depth: u16,
+    table: [[u8; network::ROW]; LAYERS],
+    ghost counted: { within ≡ inside_sum run.board },
+    ghost deep: { depth ≡ depth_in run },
+    ghost wired: { Wired run table },
+    ghost steady: { Steady run },
 }
 
-// What an opening or an enter gives: the refusal number, 0 where it was carried out, and the frame after it.
-#[derive(Clone, Copy)]
-pub struct Entering {
-    pub refusal: u8,
-    pub frame: Frame,
+// Puts the row of each layer into the table.
+fn wire_up(table: &mut [[u8; network::ROW]; LAYERS], width: u16, construction: u16)
+    ensures { (L : ℕ) → L < depth_of width construction → get_or table.new L [] ≡ row_array width construction L }
+{
+    for layer in 0..network::depth_of(width, construction) {
+        table[usize::from(layer)] = network::row(width, construction, layer);
+    }
 }
-
-#[derive(Clone, Copy)]
-pub struct Turning {
-    pub answer: Turn,
-    pub frame: Frame,
-}
-
-// ---- the places of the tokens: nothing else reads or stores them
 
 // The place of a token; a number that is no token reads as a free one.
-fn place_at<'a>(
-    inside: &'a [bool; TOKENS],
-    level: &'a [u16; TOKENS],
-    wire: &'a [u16; TOKENS],
-    token: u16,
-) -> Place
-    requires { Sized (seats inside.now level.now wire.now) }
-    ensures { result ≡ get_or (places_in (seats inside.now level.now wire.now)) token free_place }
+#[tactic(auto, using(board::proofs::Lists::read_out), unfolding(board::specs::Board::place_at))]
+fn place_at(board: &Board, token: u16) -> Place
+    ensures { result ≡ place_at board.now token }
 {
-    let at = token as usize;
-    if at < TOKENS {
-        return Place {
-            inside: inside[at],
-            level: level[at],
-            wire: wire[at],
-        };
-    }
-    board::free_place()
-}
-
-fn put_place(
-    inside: &mut [bool; TOKENS],
-    level: &mut [u16; TOKENS],
-    wire: &mut [u16; TOKENS],
-    token: u16,
-    place: Place,
-)
-    requires { (token < 256) × Sized (seats inside.old level.old wire.old) }
-    ensures { Seated (seats inside.old level.old wire.old) token place (seats inside.new level.new wire.new) }
-{
-    let at = token as usize;
-    inside[at] = place.inside;
-    level[at] = place.level;
-    wire[at] = place.wire;
-}
-
-// ---- the table of the places that the wires feed
-
-fn put_row(table: &mut [u8; TABLE], layer: u16, row: &[u8; network::ROW])
-    requires { (layer < 36) × (length table.old ≡ 2304) }
-    ensures { PutRow table.old layer row.now table.new }
-{
-    let from = (layer as usize) * 64;
-    let mut wire: usize = 0;
-    while wire < 64 {
-        table[from + wire] = row[wire];
-        wire += 1;
+    match board.places.get(usize::from(token)) {
+        Some(place) => *place,
+        None => board::free_place(),
     }
 }
 
-fn wire_up(table: &mut [u8; TABLE], width: u16, construction: u16)
-    requires { length table.old ≡ 2304 }
-    ensures { Wired width construction table.new }
+// A token is put on a wire of level 0.
+#[tactic(auto, unfolding(moves::specs::Enter::entering))]
+fn put_in(board: &mut Board, token: u16, wire: u16)
+    requires { (token < 256) × (board.old.entered < max_entered) }
+    ensures { board.new ≡ entering board.old token wire }
 {
-    let depth = network::depth_of(width, construction);
-    let mut layer: u16 = 0;
-    while layer < depth {
-        let row = network::row(width, construction, layer);
-        put_row(table, layer, &row);
-        layer += 1;
-    }
-}
-
-fn feeds_at(table: &[u8; TABLE], layer: u16, wire: u16) -> u8
-    requires { (layer < 36) × (wire < 64) }
-    ensures { result ≡ get_or table.now (wire_at layer wire) 0 }
-{
-    let at = (layer as usize) * 64 + (wire as usize);
-    table[at]
-}
-
-// ---- opening
-
-// The frame before any opening, and after a refused one.
-pub fn no_frame() -> Frame
-    ensures { result ≡ blank }
-{
-    Frame {
-        width: 0,
-        construction: 0,
-        depth: 0,
-        entered: 0,
-        within: 0,
-    }
-}
-
-// A run opens over arrays in which nothing has moved; refused by 1 and 2.
-pub fn open(table: &mut [u8; TABLE], width: u16, construction: u16) -> Entering
-    requires { length table.old ≡ 2304 }
-    ensures { Opens width construction result table.new }
-{
-    let refusal = network::open_refusal(width, construction);
-    if refusal != 0 {
-        let frame = no_frame();
-        return Entering { refusal, frame };
-    }
-    wire_up(table, width, construction);
-    let depth = network::depth_of(width, construction);
-    let frame = Frame {
-        width,
-        construction,
-        depth,
-        entered: 0,
-        within: 0,
-    };
-    Entering { refusal, frame }
-}
-
-// ---- entering
-
-// A token enters on a wire of level 0; refused by 4, 5, 6, 7.
-pub fn enter(
-    frame: Frame,
-    inside: &mut [bool; TOKENS],
-    level: &mut [u16; TOKENS],
-    wire: &mut [u16; TOKENS],
-    token: u16,
-    on: u16,
-) -> Entering
-    requires { (frame.entered ≤ 1000000) × Framed frame (seats inside.old level.old wire.old) }
-    ensures { Enters frame (seats inside.old level.old wire.old) token on result (seats inside.new level.new wire.new) }
-{
-    let from = place_at(inside, level, wire, token);
-    let refusal = moves::enter_refusal(frame.entered, frame.width, from, token, on);
-    if refusal != 0 {
-        return Entering { refusal, frame };
-    }
-    let entry = Place {
+    board.places[usize::from(token)] = Place {
         inside: true,
         level: 0,
-        wire: on,
+        wire,
     };
-    put_place(inside, level, wire, token, entry);
-    let entered = frame.entered + 1;
-    let within = frame.within + 1;
-    let after = Frame {
-        width: frame.width,
-        construction: frame.construction,
-        depth: frame.depth,
-        entered,
-        within,
-    };
-    Entering {
-        refusal,
-        frame: after,
-    }
+    board.entered += 1;
 }
 
-// ---- turns
-
 // A token inside passes the cell that its wire feeds.
-fn pass(
-    width: u16,
-    toggles: &mut [bool; CELLS],
-    inside: &mut [bool; TOKENS],
-    level: &mut [u16; TOKENS],
-    wire: &mut [u16; TOKENS],
-    token: u16,
-    from: Place,
-    feeds: u8,
-) -> Turn
-    requires { CanPass toggles.old (seats inside.old level.old wire.old) token from }
-    ensures { Passes width toggles.old (seats inside.old level.old wire.old) token feeds result toggles.new (seats inside.new level.new wire.new) }
+#[tactic(auto, unfolding(moves::specs::Turn::passing, board::specs::Board::place_at, board::specs::Board::down_at))]
+fn pass(board: &mut Board, width: u16, token: u16, feeds: u8) -> Turn
+    requires { (token < 256) × ((place_at board.old token).level < 65535) }
+    ensures { moved (record { turn = result; board = board.new }) ≡ passing width board.old token feeds }
 {
-    let layer = from.level;
-    let next = layer + 1;
+    let layer = place_at(board, token).level;
     let cell = feeds / 2;
     let toggle = moves::cell_at(width, layer, cell);
-    let down = moves::toggle_at(toggles, toggle);
+    let down = moves::toggle_at(&board.toggles, toggle);
     let outlet = moves::shown(down);
-    let to = moves::wire_of(cell, outlet);
-    moves::put_toggle(toggles, toggle, !down);
+    let level = layer + 1;
+    let wire = moves::wire_of(cell, outlet);
+    moves::put_toggle(&mut board.toggles, toggle, !down);
     let there = Place {
         inside: true,
-        level: next,
-        wire: to,
+        level,
+        wire,
     };
-    put_place(inside, level, wire, token, there);
+    board.places[usize::from(token)] = there;
     Turn::Passed {
-        level: next,
-        wire: to,
+        level,
+        wire,
         layer,
         cell,
         outlet,
@@ -230,74 +98,81 @@ fn pass(
 }
 
 // A token inside is dealt its number at an exit, and is free.
-fn deal(
-    width: u16,
-    counts: &mut [u32; EXITS],
-    inside: &mut [bool; TOKENS],
-    level: &mut [u16; TOKENS],
-    wire: &mut [u16; TOKENS],
-    token: u16,
-    exit: u16,
-) -> Turn
-    requires { CanDeal width counts.old (seats inside.old level.old wire.old) token exit }
-    ensures { Deals width counts.old (seats inside.old level.old wire.old) token exit result counts.new (seats inside.new level.new wire.new) }
+#[tactic(auto, unfolding(moves::specs::Turn::dealing, board::specs::Board::count_at))]
+fn deal(board: &mut Board, width: u16, token: u16, exit: u16) -> Turn
+    requires { (token < 256) × ((width ≤ 64) × (count_at board.old exit ≤ max_entered)) }
+    ensures { moved (record { turn = result; board = board.new }) ≡ dealing width board.old token exit }
 {
-    let count = moves::count_at(counts, exit);
+    let count = moves::count_at(&board.counts, exit);
     let number = moves::number_at(width, exit, count);
-    let next = count + 1;
-    moves::put_count(counts, exit, next);
-    let free = board::free_place();
-    put_place(inside, level, wire, token, free);
+    moves::put_count(&mut board.counts, exit, count + 1);
+    board.places[usize::from(token)] = board::free_place();
     Turn::Dealt { exit, number }
 }
 
-// A token inside passes its next cell, or is dealt a number at its exit; refused by 4, 8.
-pub fn turn(
-    frame: Frame,
-    table: &[u8; TABLE],
-    toggles: &mut [bool; CELLS],
-    counts: &mut [u32; EXITS],
-    inside: &mut [bool; TOKENS],
-    level: &mut [u16; TOKENS],
-    wire: &mut [u16; TOKENS],
-    token: u16,
-) -> Turning
-    requires { Turnable frame (lent table.now toggles.old counts.old (seats inside.old level.old wire.old)) }
-    ensures { Turns frame (lent table.now toggles.old counts.old (seats inside.old level.old wire.old)) token result (lent table.now toggles.new counts.new (seats inside.new level.new wire.new)) }
-{
-    let place = place_at(inside, level, wire, token);
-    let refusal = moves::turn_refusal(token, place);
-    if refusal != 0 {
-        return Turning {
-            answer: Turn::Refused(refusal),
-            frame,
-        };
+impl WiredRun {
+    // No run yet: that of a refused opening stands in.
+    #[tactic(auto, unfolding(run::specs::Run::fresh))]
+    pub fn unopened() -> WiredRun
+        ensures { result.run ≡ fresh 0 0 }
+    {
+        WiredRun {
+            run: Run {
+                width: 0,
+                construction: 0,
+                board: board::fresh(),
+            },
+            within: 0,
+            depth: 0,
+            table: [[0; network::ROW]; LAYERS],
+        }
     }
-    if place.level < frame.depth {
-        let feeds = feeds_at(table, place.level, place.wire);
-        let answer = pass(
-            frame.width,
-            toggles,
-            inside,
-            level,
-            wire,
-            token,
-            place,
-            feeds,
-        );
-        return Turning { answer, frame };
+
+    // A run opens, whatever stood here; refused by 1 and 2.
+    pub fn open(&mut self, width: u16, construction: u16) -> Result<(), Refusal>
+        ensures { opened (after self.new.run result) ≡ open_of width construction }
+    {
+        let opened = Run::open(width, construction);
+        self.run = opened.state;
+        self.within = 0;
+        self.depth = network::depth_of(self.run.width, self.run.construction);
+        wire_up(&mut self.table, self.run.width, self.run.construction);
+        opened.answer
     }
-    let answer = deal(frame.width, counts, inside, level, wire, token, place.wire);
-    let within = frame.within - 1;
-    let after = Frame {
-        width: frame.width,
-        construction: frame.construction,
-        depth: frame.depth,
-        entered: frame.entered,
-        within,
-    };
-    Turning {
-        answer,
-        frame: after,
+
+    // A token enters on a wire of level 0; refused by 4, 5, 6, 7.
+    #[tactic(auto, using(order::proofs::Numbers::number_some, crate::proofs::Steps::can_enter, crate::proofs::Steps::few, crate::proofs::Steps::few_inside), unfolding(run::specs::Run::enter_of, moves::specs::Enter::enter_with, moves::specs::Enter::enter_no, moves::specs::Enter::entering, board::specs::Board::place_at, order::specs::Order::first_of))]
+    pub fn enter(&mut self, token: u16, wire: u16) -> Result<(), Refusal>
+        ensures { sound self.old.run ≡ true → entered (after self.new.run result) ≡ enter_of self.old.run token wire }
+    {
+        let from = place_at(&self.run.board, token);
+        moves::check_enter(self.run.board.entered, self.run.width, from, token, wire)?;
+        put_in(&mut self.run.board, token, wire);
+        self.within += 1;
+        Ok(())
+    }
+
+    // The place that a token's wire feeds, below the depth.
+    fn feeds_at(&self, place: Place) -> u8
+        requires { (place.level < depth_in self.now.run) × (place.wire < self.now.run.width) }
+        ensures { result ≡ place_of self.now.run.width self.now.run.construction place.level place.wire }
+    {
+        self.table[usize::from(place.level)][usize::from(place.wire)]
+    }
+
+    // A token inside passes its next cell, or is dealt a number at its exit; refused by 4, 8.
+    #[tactic(auto, using(order::proofs::Numbers::number_some, crate::proofs::Steps::can_turn), unfolding(run::specs::Run::turn_of, run::specs::Run::feeds_of, run::specs::Run::depth_in, moves::specs::Turn::turn_with, moves::specs::Turn::turn_no, board::specs::Board::place_at, order::specs::Order::first_of))]
+    pub fn turn(&mut self, token: u16) -> Result<Turn, Refusal>
+        ensures { sound self.old.run ≡ true → turned (after self.new.run result) ≡ turn_of self.old.run token }
+    {
+        let place = place_at(&self.run.board, token);
+        moves::check_turn(token, place)?;
+        let width = self.run.width;
+        if place.level < self.depth {
+            let feeds = self.feeds_at(place);
+            return Ok(pass(&mut self.run.board, width, token, feeds));
+        }
+        self.within -= 1;
+        Ok(deal(&mut self.run.board, width, token, place.wire))
     }
 }

@@ -12,14 +12,10 @@ fn list_all(bytes: &[u8], out: &mut [u8]) -> usize
     requires { 350000 ≤ length out.old }
     ensures { Whole (listing_of bytes.now) out.old result out.new }
 {
-    let listed = listing_text::listing(bytes, out);
-    listed.bytes
+    listing_text::listing(bytes, out).unwrap()
 }
 
 fn main(rt: HostRuntime) -> io::Result<()> {
-    let mut input: [u8; 65537] = streams::zeros();
-    let n = streams::read_full(&mut rt.stdin(), &mut input)?;
-    let mut out: [u8; 350000] = streams::zeros();
-    let filled = list_all(&input[..n], &mut out);
-    rt.write_all(&out[..filled])
+    let mut out: [u8; 350000] = streams::buffer_of(0);
+    streams::tell(&rt, &mut out, list_all)
 }

@@ -1,26 +1,48 @@
--- Laws of the report lines. In order: one line and the rest; their most bytes; the loop that puts them. Assumes nothing.
-use Prim.Native.Nat.{ℕ, zero, suc, ◌+◌, ◌-◌, ◌*◌, ◌/◌, ◌≤◌, ◌<◌}
-use mathlib.Core.Path.{◌≡◌}
+-- Laws of the report lines. In order: a line and those behind it; their most bytes; the loop that puts them. Assumes nothing.
+use Prim.Native.Nat.{ℕ, zero, suc, ◌+◌, ◌*◌, ◌/◌, ◌≤◌, ◌<◌}
+use mathlib.Core.Path.{◌≡◌, refl, ◌∙◌}
 use mathlib.Core.List.{List, ◌++◌}
 use native.Mathlib.Omega.{arith}
-use lib.ListN.{length, length-append}
+use lib.ListN.{length, drop, length-append, length-drop}
+use lib.Seq.{drop-append-le, take-append-le, drop-append-add}
 use Rattle.records.specs.Fields.{field}
 use Rattle.text.specs.Text.{letters, Puts}
-use Rattle.text.proofs.Text.{Leads, leads_all, leads_none, leads_on}
+use Rattle.text.proofs.Text.{Leads, leads_none, leads_on}
 use Rattle.text.proofs.Numbers.{length_decimal}
 use Rattle.listing_text.specs.Lines.{three, report_lines}
 
 -- ---- the lines
-module _ (reports : List ℕ) where
-  abbrev line_at : ℕ → List ℕ
-  line_at at = three (field 2 reports (at + 4)) (field 2 reports (at + 6)) (field 4 reports (at + 8))
+field_front : (n : ℕ) (s t : List ℕ) (at : ℕ) → at + n ≤ length s → field n (s ++ t) at ≡ field n s at
+field_front n s t at h = rw (drop-append-le at s t (omega arith), take-append-le n (drop at s) t (simp length-drop (omega arith)))
 
-  pub lines_more : (n at : ℕ) → 0 < n → report_lines n reports at ≡ line_at at ++ report_lines (n - 1) reports (at + 12)
-  unfolding report_lines
-  lines_more zero at h = absurd (omega arith)
-  lines_more (suc n) at h =
-      let e : suc n - 1 ≡ n = omega arith in
-      rw e
+field_behind : (n : ℕ) (s t : List ℕ) (at from : ℕ) → from ≡ length s + at → field n (s ++ t) from ≡ field n t at
+field_behind n s t at from e = rw (e, drop-append-add)
+
+-- the lines of what stands behind
+lines_behind : (n : ℕ) (s t : List ℕ) (at from : ℕ) → from ≡ length s + at → report_lines n (s ++ t) from ≡ report_lines n t at
+unfolding report_lines
+lines_behind zero s t at from e = refl
+lines_behind (suc n) s t at from e =
+    rw (
+      field_behind 2 s t (at + 4) (from + 4) (omega arith),
+      field_behind 2 s t (at + 6) (from + 6) (omega arith),
+      field_behind 4 s t (at + 8) (from + 8) (omega arith),
+      lines_behind n s t (at + 12) (from + 12) (omega arith),
+    )
+
+-- a report and those behind it
+lines_more : (report rest : List ℕ) → length report ≡ 12 → report_lines (length (report ++ rest) / 12) (report ++ rest) 0
+    ≡ three (field 2 report 4) (field 2 report 6) (field 4 report 8) ++ report_lines (length rest / 12) rest 0
+unfolding report_lines
+lines_more report rest e =
+    let n : length (report ++ rest) / 12 ≡ suc (length rest / 12) = rw (length-append report rest, e) (omega arith) in
+    rw (
+      n,
+      field_front 2 report rest 4 (omega arith),
+      field_front 2 report rest 6 (omega arith),
+      field_front 4 report rest 8 (omega arith),
+      lines_behind (length rest / 12) report rest 0 12 (omega arith),
+    )
 
 pub length_three : (a b c : ℕ) → (1 ≤ length (three a b c)) × (length (three a b c) ≤ 63)
 unfolding three letters
@@ -35,25 +57,22 @@ length_lines (suc n) reports at =
     let ih = length_lines n reports (at + 12) in
     rw length-append (omega arith, omega arith)
 
--- ---- the loop: the reports left, from a place on, give the lines still to come
-pub record Going (reports : List ℕ) (bytes at : ℕ) (out₀ : List ℕ) (next left from : ℕ) (out : List ℕ) : Type 0 where
-  pub passed : from + 12 * left ≤ bytes
-  pub leads : Leads (report_lines left reports from) (report_lines (bytes / 12) reports 0) at out₀ next out
+-- ---- the loop: the bytes of the reports left give the lines still to come
+pub record Going (reports : List ℕ) (at : ℕ) (out₀ : List ℕ) (next size : ℕ) (left out : List ℕ) : Type 0 where
+  pub whole : size ≡ 12
+  pub leads : Leads (report_lines (length left / 12) left 0) (report_lines (length reports / 12) reports 0) at out₀ next out
 
-pub begins : (reports : List ℕ) (bytes at : ℕ) (out : List ℕ) → Going reports bytes at out at (bytes / 12) 0 out
-begins reports bytes at out = record { passed = omega arith; leads = leads_all _ at out }
-
-module _ {reports out₀ out : List ℕ} {bytes at next left from : ℕ} (g : Going reports bytes at out₀ next left from out) where
-  pub ends : left ≤ 0 → Puts (report_lines (bytes / 12) reports 0) at out₀ next out
+module _ {reports out₀ out left : List ℕ} {at next size : ℕ} (g : Going reports at out₀ next size left out) where
+  pub ends : length left < size → Puts (report_lines (length reports / 12) reports 0) at out₀ next out
   unfolding report_lines
   ends h =
-      let none : left ≡ 0 = omega arith in
+      let none : length left / 12 ≡ 0 = omega (arith, g.whole) in
       leads_none (rw none at g.leads)
 
-  pub goes_on : 0 < left → {t e n : ℕ} → t ≡ field 2 reports (from + 4) → e ≡ field 2 reports (from + 6) → n ≡ field 4 reports (from + 8)
-      → {next' : ℕ} {out' : List ℕ} → Puts (three t e n) next out next' out' → Going reports bytes at out₀ next' (left - 1) (from + 12) out'
-  goes_on some token exit number p =
+  pub goes_on : {size' : ℕ} (report rest : List ℕ) → size' ≡ size → left ≡ report ++ rest → length report ≡ size → {t e n : ℕ} → t ≡ field 2 report 4 → e ≡ field 2 report 6
+      → n ≡ field 4 report 8 → {next' : ℕ} {out' : List ℕ} → Puts (three t e n) next out next' out' → Going reports at out₀ next' size' rest out'
+  goes_on report rest same cut long token exit number p =
       record {
-        passed = omega (arith, g.passed);
-        leads = leads_on _ (rw (token, exit, number, ← lines_more reports left from some) g.leads) p;
+        whole = same ∙ g.whole;
+        leads = leads_on _ (rw (token, exit, number, ← lines_more report rest (long ∙ g.whole), ← cut) g.leads) p;
       }

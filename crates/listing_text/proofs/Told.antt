@@ -2,15 +2,14 @@
 -- schedule is not too long.
 -- Assumes nothing.
 use Prim.Native.Nat.{ℕ, suc, ◌≤◌}
-use mathlib.Core.Path.{◌≡◌, refl, sym}
+use mathlib.Core.Path.{◌≡◌, refl}
 use mathlib.Core.Bool.{Bool, true, false, cond}
 use mathlib.Core.List.{List, []}
 use native.Mathlib.Omega.{arith}
 use lib.ListN.{length}
 use lib.Dec.{ltb, leb}
 use borrow.Author.Tests.{leb-true, le-leb, ltb-false}
-use Rattle.outcome.specs.declared.Outcome.{Outcome}
-use Rattle.outcome.specs.declared.Outcome.TheVariants.{Accepted, Refused}
+use Rattle.outcome.specs.Outcome.{Outcome, Accepted, Refused}
 use Rattle.outcome.specs.Course.{Course, at_start}
 use Rattle.outcome.specs.Schedule.{Told, stopped, accepted, tell}
 use Rattle.outcome.proofs.Told.{Fault, told_from}
@@ -26,11 +25,11 @@ AllTold t = (w c e b : ℕ) → t.outcome ≡ Accepted w c e b → b ≡ length 
 
 all_stopped : (k n at present : ℕ) → Fault k → AllTold (stopped k n at present)
 unfolding AllTold
-all_stopped k n at present f w c e b h = let never : ◌≡◌ {A = ℕ} 0 1 = cc in absurd (omega arith)
+all_stopped k n at present f w c e b h = cc
 
 all_accepted : (x : Course) (done : List ℕ) → AllTold (accepted x done)
 unfolding AllTold
-all_accepted x done w c e b h = let all-of-them : length done ≡ b = cc in sym all-of-them
+all_accepted x done w c e b h = cc
 
 all_told : (s : List ℕ) → AllTold (tell s)
 unfolding tell
@@ -41,7 +40,7 @@ all_told s =
 -- what is accepted behind a test that may refuse
 passed : (x : Bool) (o : Outcome) (k w c e b : ℕ) → cond x o (Refused k 0 0 0) ≡ Accepted w c e b → (x ≡ true) × (o ≡ Accepted w c e b)
 passed true o k w c e b h = (refl, h)
-passed false o k w c e b h = let never : ◌≡◌ {A = ℕ} 0 1 = cc in absurd (omega arith)
+passed false o k w c e b h = absurd (cc)
 
 abbrev told : Outcome → List ℕ → Told
 told o reports = record { outcome = o; reports = reports }
@@ -52,10 +51,10 @@ settled_bytes (Accepted w' c' e' b') reports room w c e b all h =
     let p = passed (leb b' room) _ 17 w c e b h in
     let same : b ≡ b' = let q = p.1 in cc in
     record { all = all w c e b p.1; within = rw same (leb-true b' room p.0) }
-settled_bytes (Refused k n at present) reports room w c e b all h = let never : ◌≡◌ {A = ℕ} 0 1 = cc in absurd (omega arith)
+settled_bytes (Refused k n at present) reports room w c e b all h = absurd (cc)
 
 short : (x : Bool) (o : Outcome) (w c e b : ℕ) → cond x (Refused 16 0 0 0) o ≡ Accepted w c e b → (x ≡ false) × (o ≡ Accepted w c e b)
-short true o w c e b h = let never : ◌≡◌ {A = ℕ} 0 1 = cc in absurd (omega arith)
+short true o w c e b h = absurd (cc)
 short false o w c e b h = (refl, h)
 
 pub run_bytes : (s : List ℕ) (room w c e b : ℕ) → run_of s room ≡ Accepted w c e b → Bytes (tell s) room b

@@ -11,11 +11,10 @@ use lib.Seq.{drop-set-lt}
 use borrow.Author.Tests.{le-leb, lt-ltb, ltb-true, eqb-true}
 use Rattle.board.specs.declared.Place.{Place}
 use Rattle.board.specs.declared.Board.{Board}
-use Rattle.moves.specs.declared.Moved.{Moved}
 use Rattle.board.specs.Board.{free_place, place_at, count_at, cell_at, down_at}
 use Rattle.board.specs.Sound.{place_ok, places_ok, counts_beyond, toggles_beyond, itself, dealt_sum, inside_one, inside_sum, sound_board}
 use Rattle.moves.specs.Enter.{at, enter_no, entering, enter_with}
-use Rattle.moves.specs.Turn.{turn_no, outlet_of, passing, dealing, turn_with}
+use Rattle.moves.specs.Turn.{turn_no, outlet_of, Moved, passing, dealing, turn_with}
 use Rattle.board.proofs.Lists.{cond_case, all_set, sum_set}
 use Rattle.board.proofs.Sound.{Shaped, parts, whole, inside_at}
 use Rattle.moves.proofs.Refusals.{CanEnter, can_enter, CanTurn, can_turn}

@@ -11,12 +11,10 @@ use Rattle.order.specs.Order.{◌⟶◌, first_of}
 use Rattle.order.proofs.Order.{cleared, at_most, first_of_le}
 use Rattle.board.specs.declared.Place.{Place}
 use Rattle.board.specs.declared.Board.{Board}
-use Rattle.moves.specs.declared.Boarded.{Boarded}
-use Rattle.moves.specs.declared.Moved.{Moved}
 use Rattle.moves.specs.Answer.{values_of}
 use Rattle.board.specs.Board.{place_at}
-use Rattle.moves.specs.Enter.{enter_no, entering, enter_with}
-use Rattle.moves.specs.Turn.{turn_no, passing, dealing, turn_with}
+use Rattle.moves.specs.Enter.{enter_no, entering, Boarded, enter_with}
+use Rattle.moves.specs.Turn.{turn_no, Moved, passing, dealing, turn_with}
 use Rattle.board.proofs.Lists.{cond_case}
 
 -- ---- what holds where a call is not refused

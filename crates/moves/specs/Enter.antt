@@ -1,10 +1,10 @@
 -- Entering (01, "A run" and the order of refusal). `good` says whether the record is sound. A refused call gives the board back
 -- as it was. Definitions only. Assumes nothing.
-use Rattle.std.specs.Prelude.{ℕ, ◌+◌, Bool, true, not, cond, [], ◌∷◌, eqb, leb, ltb, set}
-use Rattle.order.specs.Order.{◌⟶◌, first_of}
+use Rattle.std.specs.Prelude.{ℕ, ◌+◌, Bool, true, not, cond, [], ◌∷◌, eqb, leb, ltb, set, ⊤}
+use Rattle.order.specs.declared.After.{After}
+use Rattle.order.specs.Order.{◌⟶◌, first_of, refused_by}
 use Rattle.board.specs.declared.Place.{Place}
 use Rattle.board.specs.declared.Board.{Board}
-use Rattle.moves.specs.declared.Boarded.{Boarded}
 use Rattle.board.specs.Board.{max_entered, place_at}
 
 abbrev pub at : ℕ → ℕ → Place
@@ -18,6 +18,14 @@ enter_no good w x t v =
 -- token t on wire v of level 0
 unfoldable pub entering : Board → ℕ → ℕ → Board
 entering x t v = record { entered = x.entered + 1; counts = x.counts; toggles = x.toggles; places = set x.places t (at 0 v) }
+
+-- what entering gives: the refusal's number, 0 where it was carried out, and the board after it
+pub record Boarded : Type 0 where
+  pub refusal : ℕ
+  pub board : Board
+
+abbrev pub boarded : After Board ⊤ → Boarded
+boarded a = record { refusal = refused_by a.answer; board = a.state }
 
 unfoldable pub enter_with : Bool → ℕ → Board → ℕ → ℕ → Boarded
 enter_with good w x t v =

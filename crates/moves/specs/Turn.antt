@@ -3,9 +3,9 @@
 use Rattle.std.specs.Prelude.{ℕ, ◌+◌, ◌*◌, ◌/◌, Bool, not, cond, [], ◌∷◌, eqb, ltb, set}
 use Rattle.order.specs.Order.{◌⟶◌, first_of}
 use Rattle.board.specs.declared.Board.{Board}
-use Rattle.moves.specs.declared.Turn.TheVariants.{Passed, Dealt, Refused}
-use Rattle.moves.specs.declared.Moved.{Moved}
+use Rattle.moves.specs.declared.Moved as code
 use Rattle.board.specs.Board.{free_place, place_at, count_at, cell_at, down_at}
+use Rattle.moves.specs.Answer.{Answer, Passed, Dealt, Refused, turned}
 use Rattle.moves.specs.Enter.{at}
 
 -- 9 not sound; 4 token above 255; 8 token not inside
@@ -15,6 +15,14 @@ turn_no good x t = first_of ((not good ⟶ 9) ∷ (ltb 255 t ⟶ 4) ∷ (not (pl
 -- the outlet that a toggle shows: 0, the top, where it is up, and 1, the bottom, where it is down
 abbrev pub outlet_of : Bool → ℕ
 outlet_of down = cond down 1 0
+
+-- what a turn gives: its answer, and the board after it
+pub record Moved : Type 0 where
+  pub answer : Answer
+  pub board : Board
+
+abbrev pub moved : code.Moved → Moved
+moved m = record { answer = turned m.turn; board = m.board }
 
 -- The token passes the cell c that its wire feeds, by the place 2c + s, whichever inlet s it used: it leaves by the outlet that
 -- the toggle shows, and flips it. The answer names the new level and wire, and layer, cell and outlet.

@@ -1,14 +1,12 @@
--- Laws of `tabulate` and `array_of`: a row as a list and in an array, and the array that a loop fills from the front, one wire
--- a turn. Assumes nothing.
-use mathlib.Core.Path.{◌≡◌, refl, sym, ap, ◌∙◌, subst}
+-- Laws of `tabulate` and `array_of`: a row as a list and in an array. Assumes nothing.
+use mathlib.Core.Path.{◌≡◌, refl, sym, ap, ◌∙◌}
 use mathlib.Core.List.{List, ◌++◌}
 use Prim.Native.Nat.{ℕ, zero, suc, ◌+◌, ◌-◌, ◌<◌, ◌≤◌}
 use native.Mathlib.Nat.{le_of_suc-le-suc, not-suc-le-zero}
 use native.Mathlib.Omega.{arith}
 use native.Mathlib.Decide.{dec_lt}
-use lib.ListN.{length, get_or, set, take, replicate, length-append, length-replicate, get_or-append}
-use lib.Seq.{get_or-set_same, get_or-set_other, get_or-append-add, ext_get_or, take_at}
-use borrow.Author.Count.{below_more}
+use lib.ListN.{length, get_or, take, replicate, length-append, length-replicate, get_or-append}
+use lib.Seq.{get_or-append-add, ext_get_or, take_at}
 use Rattle.network.specs.Rows.{tabulate, array_of}
 
 pub length_tabulate : (f : ℕ → ℕ) (n : ℕ) → length (tabulate f n) ≡ n
@@ -30,7 +28,7 @@ tabulate_ext f g n h =
     let m : i < n = omega (arith, length_tabulate f n) in
     get_d_tabulate f n i m ∙ h i m ∙ sym (get_d_tabulate g n i m))
 
-get_or_zeros : (n v : ℕ) → ◌≡◌ {A = ℕ} (get_or (replicate n 0) v 0) 0
+pub get_or_zeros : (n v : ℕ) → ◌≡◌ {A = ℕ} (get_or (replicate n 0) v 0) 0
 get_or_zeros zero v = refl
 get_or_zeros (suc n) zero = refl
 get_or_zeros (suc n) (suc v) = get_or_zeros n v
@@ -59,7 +57,7 @@ module _ (f : ℕ → ℕ) (n : ℕ) where
   length_array l = simp length-append (omega (arith, length_tabulate f n, length-replicate {A = ℕ} (64 - n) 0))
 
   -- an array that holds the row is the row's
-  row→array : (a : List ℕ) → n ≤ 64 → length a ≡ 64 → RowIs a n f → a ≡ array_of f n
+  pub row→array : (a : List ℕ) → n ≤ 64 → length a ≡ 64 → RowIs a n f → a ≡ array_of f n
   row→array a l e r =
       ext_get_or 0 a (array_of f n) (e ∙ sym (length_array l))
       (λ v m. elim (dec_lt v n) [
@@ -70,17 +68,3 @@ module _ (f : ℕ → ℕ) (n : ℕ) where
   pub take_array : take n (array_of f n) ≡ tabulate f n
   unfolding array_of
   take_array = take_at (tabulate f n) (replicate (64 - n) 0) n (length_tabulate f n)
-
--- ---- filled from the front
-pub row_none : (n : ℕ) (f : ℕ → ℕ) → RowIs (replicate n 0) 0 f
-row_none n f = record { at = λ v l. absurd (omega arith); rest = λ v l. get_or_zeros n v }
-
-pub row_more : (a : List ℕ) (i x : ℕ) (f : ℕ → ℕ) → i < length a → x ≡ f i → RowIs a i f → RowIs (set a i x) (i + 1) f
-row_more a i x f l e r = record {
-  at = below_more (λ v. get_or (set a i x) v 0 ≡ f v) i (λ v h. get_or-set_other a i v x 0 (λ q. omega arith) ∙ r.at v h) (get_or-set_same a i x 0 l ∙ e);
-  rest = λ v h. get_or-set_other a i v x 0 (λ q. omega arith) ∙ r.rest v (omega arith);
-}
-
--- filled to its end, the array is the row's
-pub row_at_lem : {a : List ℕ} {i : ℕ} (f : ℕ → ℕ) (n : ℕ) → RowIs a i f → i ≡ n → n ≤ 64 → length a ≡ 64 → a ≡ array_of f n
-row_at_lem {a} {i} f n r e l m = row→array f n a l m (subst (λ (k : ℕ). RowIs a k f) e r)

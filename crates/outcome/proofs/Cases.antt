@@ -3,7 +3,7 @@ use Prim.Native.Nat.{ℕ}
 use mathlib.Core.Path.{◌≡◌, refl}
 use mathlib.Core.List.{[], ◌∷◌, ◌++◌}
 use Rattle.records.specs.declared.Record.TheVariants.{Number}
-use Rattle.outcome.specs.declared.Outcome.TheVariants.{Accepted, Refused}
+use Rattle.outcome.specs.Outcome.{Accepted, Refused}
 use Rattle.order.specs.Order.{first_of}
 use Rattle.network.specs.Widths.{width_ok, construction_ok, open_no, levels, depth_of}
 use Rattle.network.specs.Wiring.{part, bitonic, place}

@@ -7,7 +7,7 @@ use mathlib.Core.List.{List, [], ◌∷◌}
 use lib.Dec.{eqb}
 use borrow.Author.Tests.{eqb-false}
 use native.Mathlib.Omega.{arith}
-use Rattle.order.specs.Order.{Refusal, first_of}
+use Rattle.order.specs.Order.{Rule, first_of}
 use Rattle.network.specs.Widths.{open_no}
 use Rattle.moves.specs.Enter.{enter_no}
 use Rattle.moves.specs.Turn.{turn_no}
@@ -22,17 +22,17 @@ use Rattle.outcome.specs.Course.{Course, Step}
 use Rattle.outcome.specs.Step.{close_no, phase_no, place_no, served_of, step_of}
 
 -- no number of the list is 17
-unfoldable without17 : List Refusal → Bool
+unfoldable without17 : List Rule → Bool
 without17 [] = true
 without17 (r ∷ rs) = not (eqb r.number 17) && without17 rs
 
-head_other : (b c : Bool) (k m : ℕ) (rs : List Refusal) → eqb k 17 ≡ c → not c && without17 rs ≡ true → (without17 rs ≡ true → m ≡ 17 → ⊥)
+head_other : (b c : Bool) (k m : ℕ) (rs : List Rule) → eqb k 17 ≡ c → not c && without17 rs ≡ true → (without17 rs ≡ true → m ≡ 17 → ⊥)
     → cond b k m ≡ 17 → ⊥
 head_other b true k m rs e h f = let never : ◌≡◌ {A = ℕ} 0 1 = cc in absurd (omega arith)
 head_other true false k m rs e h f = eqb-false k 17 e
 head_other false false k m rs e h f = f h
 
-first_of_other : (rs : List Refusal) → without17 rs ≡ true → first_of rs ≡ 17 → ⊥
+first_of_other : (rs : List Rule) → without17 rs ≡ true → first_of rs ≡ 17 → ⊥
 unfolding first_of without17
 first_of_other [] h = λ e. omega arith
 first_of_other (r ∷ rs) h = head_other r.when (eqb r.number 17) r.number (first_of rs) rs refl h (first_of_other rs)

@@ -2,8 +2,7 @@
 use Prim.Native.Nat.{ℕ, ◌≤◌}
 use native.Mathlib.Omega.{arith}
 use lib.ListN.{length}
-use Rattle.moves.specs.declared.Turn.{Turn}
-use Rattle.moves.specs.declared.Turn.TheVariants.{Passed, Dealt, Refused}
+use Rattle.moves.specs.Answer.{Answer, Passed, Dealt, Refused}
 use Rattle.records.specs.declared.Record.{Record}
 use Rattle.records.specs.declared.Record.TheVariants.{Open, Enter, Turn as TurnRecord, Close, Number}
 use Rattle.records.specs.Reading.{length_of}
@@ -19,7 +18,7 @@ size_most (TurnRecord t) = omega arith
 size_most (Close e) = omega arith
 size_most (Number t v n) = omega arith
 
-pub length_report_of : (t : ℕ) (a : Turn) → length (report_of t a) ≤ 12
+pub length_report_of : (t : ℕ) (a : Answer) → length (report_of t a) ≤ 12
 unfolding report_of
 length_report_of t (Passed l v L c o) = omega arith
 length_report_of t (Dealt i n) = rw length_bytes_of (size_most (Number t i n))

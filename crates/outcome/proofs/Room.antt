@@ -12,11 +12,10 @@ use borrow.Author.Tests.{eqb-true, ltb-false, le-leb}
 use Rattle.network.specs.Widths.{open_no}
 use Rattle.board.specs.declared.Place.{Place}
 use Rattle.board.specs.declared.Board.{Board}
-use Rattle.moves.specs.declared.Moved.{Moved}
 use Rattle.board.specs.Board.{free_place, fresh_board, place_at}
 use Rattle.board.specs.Sound.{inside_one, inside_sum}
 use Rattle.moves.specs.Enter.{at, enter_no, entering, enter_with}
-use Rattle.moves.specs.Turn.{turn_no, passing, dealing, turn_with}
+use Rattle.moves.specs.Turn.{Moved, turn_no, passing, dealing, turn_with}
 use Rattle.board.proofs.Lists.{cond_case, sum_set, sum_replicate}
 use Rattle.board.proofs.Sound.{Shaped}
 use Rattle.moves.proofs.Refusals.{can_enter, can_turn}
@@ -24,8 +23,7 @@ use Rattle.run.specs.declared.Run.{Run}
 use Rattle.run.specs.Run.{fresh, open_of, sound, enter_of, turn_of}
 use Rattle.records.specs.declared.Record.{Record}
 use Rattle.records.specs.declared.Record.TheVariants.{Open, Enter, Turn, Close, Number}
-use Rattle.outcome.specs.declared.Outcome.{Outcome}
-use Rattle.outcome.specs.declared.Outcome.TheVariants.{Accepted, Refused}
+use Rattle.outcome.specs.Outcome.{Outcome, Accepted, Refused}
 use Rattle.outcome.specs.Course.{Course, at_start, Step}
 use Rattle.outcome.specs.Step.{report_of, place_no, served_of, step_of}
 use Rattle.outcome.specs.Schedule.{Told, tell}

@@ -11,11 +11,9 @@ use lib.Dec.{ltb, eqb}
 use borrow.Author.Tests.{lt-ltb, le-ltb, ltb-true, ltb-false, eq-eqb, ne_eqb, eqb-true, eqb-false}
 use Rattle.board.proofs.Lists.{cond_case}
 use Rattle.records.specs.declared.Record.{Record}
-use Rattle.records.specs.declared.Read.{Read}
-use Rattle.records.specs.declared.Read.TheVariants.{Got, Refused as Unread}
 use Rattle.records.specs.declared.Record.TheVariants.{Turn}
 use Rattle.records.specs.Fields.{field}
-use Rattle.records.specs.Reading.{length_of, known, kind_in, record_in, read_no, read_of}
+use Rattle.records.specs.Reading.{Read, Got, Refused as Unread, length_of, known, kind_in, record_in, read_no, read_of}
 use Rattle.records.proofs.Reading.{Whole, whole→read, read_length}
 use Rattle.outcome.specs.Course.{Course, Step}
 use Rattle.outcome.specs.Step.{step_of}

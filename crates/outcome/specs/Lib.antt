@@ -1,3 +1,4 @@
+pub mod Outcome
 pub mod Course
 pub mod Step
 pub mod Schedule

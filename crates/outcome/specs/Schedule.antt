@@ -1,11 +1,8 @@
 -- What a schedule's records give, on its bytes (01, "Schedule bytes" and "Numbers of refusal"). Definitions only. Assumes nothing.
 use Rattle.std.specs.Prelude.{ℕ, zero, suc, ◌+◌, List, [], ◌++◌, false, cond, length, drop, ltb, eqb}
 use Rattle.records.specs.declared.Record.{Record}
-use Rattle.records.specs.declared.Read.{Read}
-use Rattle.records.specs.declared.Read.TheVariants.{Got, Refused as Unread}
-use Rattle.records.specs.Reading.{read_of}
-use Rattle.outcome.specs.declared.Outcome.{Outcome}
-use Rattle.outcome.specs.declared.Outcome.TheVariants.{Accepted, Refused}
+use Rattle.records.specs.Reading.{Read, Got, Refused as Unread, read_of}
+use Rattle.outcome.specs.Outcome.{Outcome, Accepted, Refused}
 use Rattle.outcome.specs.Course.{Course, at_start}
 use Rattle.outcome.specs.Step.{step_of}
 

@@ -2,10 +2,8 @@
 -- Definitions only. Assumes nothing.
 use Rattle.std.specs.Prelude.{ℕ, List, [], ◌∷◌, not, cond, eqb}
 use Rattle.order.specs.Order.{◌⟶◌, first_of}
-use Rattle.moves.specs.declared.Turn.{Turn}
-use Rattle.moves.specs.declared.Turn.TheVariants.{Passed, Dealt, Refused}
 use Rattle.board.specs.Sound.{inside_sum}
-use Rattle.moves.specs.Answer.{values_of}
+use Rattle.moves.specs.Answer.{Answer, Passed, Dealt, Refused, values_of}
 use Rattle.run.specs.declared.Run.{Run}
 use Rattle.run.specs.Run.{open_of, enter_of, turn_of}
 use Rattle.records.specs.declared.Record.{Record}
@@ -14,7 +12,7 @@ use Rattle.records.specs.Writing.{bytes_of}
 use Rattle.outcome.specs.Course.{Course, course, Step, step}
 
 -- the report of a turn's answer, where a number was dealt to token t: a kind 5 record
-unfoldable pub report_of : ℕ → Turn → List ℕ
+unfoldable pub report_of : ℕ → Answer → List ℕ
 report_of t (Passed l v L c o) = []
 report_of t (Dealt i n) = bytes_of (Number t i n)
 report_of t (Refused k) = []

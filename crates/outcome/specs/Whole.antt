@@ -1,8 +1,9 @@
 -- Running a schedule: the whole call (01, "Schedule bytes" and "Numbers of refusal"). Definitions only. Assumes nothing.
-use Rattle.std.specs.Prelude.{ℕ, ◌≡◌, List, cond, length, ltb, leb}
+use Rattle.std.specs.Prelude.{ℕ, ◌≡◌, List, cond, length, ltb, leb, Result}
 use Rattle.order.specs.Order.{over}
-use Rattle.outcome.specs.declared.Outcome.{Outcome}
-use Rattle.outcome.specs.declared.Outcome.TheVariants.{Accepted, Refused}
+use Rattle.outcome.specs.Outcome.{Outcome, Accepted, Refused, outcome_by}
+use Rattle.outcome.specs.declared.Accepted.{Accepted as AcceptedRun}
+use Rattle.outcome.specs.declared.Stopped.{Stopped}
 use Rattle.outcome.specs.Schedule.{Told, tell}
 
 -- 16 first, then the faults of the records, last of all 17
@@ -24,9 +25,9 @@ after_run (Refused k n at p) reports out = out
 unfoldable pub output_of : List ℕ → List ℕ → List ℕ
 output_of s out = after_run (run_of s (length out)) (tell s).reports out
 
--- the outcome r of running a schedule, and the output out' after it
-pub record Ran (s out : List ℕ) (r : Outcome) (out' : List ℕ) : Type 0 where
-  pub outcome : r ≡ run_of s (length out)
+-- the answer r of running a schedule, and the output out' after it
+pub record Ran (s out : List ℕ) (r : Result AcceptedRun Stopped) (out' : List ℕ) : Type 0 where
+  pub outcome : outcome_by r ≡ run_of s (length out)
   pub output : out' ≡ output_of s out
 
 -- ---- the document's number and values for each outcome; what an outcome does not have is 0

@@ -13,14 +13,10 @@ fn print_all(design: &[u8], out: &mut [u8]) -> usize
     requires { 50000 ≤ length out.old }
     ensures { Whole (panel_of design.now) out.old result out.new }
 {
-    let printed = panel_text::panel(design, out);
-    printed.bytes
+    panel_text::panel(design, out).unwrap()
 }
 
 fn main(rt: HostRuntime) -> io::Result<()> {
-    let mut input: [u8; 65537] = streams::zeros();
-    let n = streams::read_full(&mut rt.stdin(), &mut input)?;
-    let mut out: [u8; 50000] = streams::zeros();
-    let filled = print_all(&input[..n], &mut out);
-    rt.write_all(&out[..filled])
+    let mut out: [u8; 50000] = streams::buffer_of(0);
+    streams::tell(&rt, &mut out, print_all)
 }

@@ -1,2 +1,3 @@
 mod Places
+pub mod Refused
 pub mod Whole

@@ -8,7 +8,7 @@ use lib.ListN.{length, get_or, drop, length-append, drop_of_length-le}
 use lib.Seq.{drop-cons}
 use Rattle.text.specs.Text.{Puts}
 use Rattle.text.specs.Numbers.{decimal}
-use Rattle.text.proofs.Text.{Leads, leads_all, leads_none, leads_on}
+use Rattle.text.proofs.Text.{Leads, leads_none, leads_on}
 use Rattle.text.proofs.Numbers.{length_decimal}
 use Rattle.panel_text.specs.Panel.{end_of, places_text}
 
@@ -21,11 +21,7 @@ length_places w i (p ∷ rest) =
 
 -- ---- the loop: the places left, put where the text has got to, give the whole
 pub record Going (w : ℕ) (sheet : List ℕ) (at : ℕ) (out₀ : List ℕ) (next i : ℕ) (out : List ℕ) : Type 0 where
-  pub within : i ≤ length sheet
   pub leads : Leads (places_text w i (drop i sheet)) (places_text w 0 sheet) at out₀ next out
-
-pub begins : (w : ℕ) (sheet : List ℕ) (at : ℕ) (out : List ℕ) → Going w sheet at out at 0 out
-begins w sheet at out = record { within = omega arith; leads = leads_all (places_text w 0 sheet) at out }
 
 places_more : (w i : ℕ) (sheet : List ℕ) → i < length sheet
     → (decimal (get_or sheet i 0) ++ (end_of w i ∷ [])) ++ places_text w (i + 1) (drop (i + 1) sheet) ≡ places_text w i (drop i sheet)
@@ -39,10 +35,9 @@ unfolding places_text
 places_none w i sheet h = rw (drop_of_length-le sheet h)
 
 module _ {w at next i : ℕ} {sheet out₀ out : List ℕ} (g : Going w sheet at out₀ next i out) where
-  pub goes_on : i < length sheet → {end next' : ℕ} {out' : List ℕ} → end ≡ end_of w i → Puts (decimal (get_or sheet i 0) ++ (end ∷ [])) next out next' out'
+  pub goes_on : i < length sheet → {place end next' : ℕ} {out' : List ℕ} → place ≡ get_or sheet i 0 → end ≡ end_of w i → Puts (decimal place ++ (end ∷ [])) next out next' out'
       → Going w sheet at out₀ next' (i + 1) out'
-  goes_on h e p =
-      record { within = omega arith; leads = leads_on _ (rw (places_more w i sheet h) g.leads) (rw e at p) }
+  goes_on h f e p = record { leads = leads_on _ (rw (places_more w i sheet h) g.leads) (rw (f, e) at p) }
 
   pub ends : length sheet ≤ i → Puts (places_text w 0 sheet) at out₀ next out
   ends h = leads_none (rw (places_none w i sheet h) at g.leads)

@@ -1,26 +1,29 @@
 -- Laws of a design's whole text. In order: the most bytes; what the reader answers gives the text. Assumes nothing.
 use Prim.Native.Nat.{ℕ, ◌+◌, ◌^◌, ◌≤◌, ◌<◌}
-use mathlib.Core.Path.{◌≡◌, refl, ◌∙◌}
+use mathlib.Core.Path.{◌≡◌, refl, sym, ap, ◌∙◌}
+use Rattle.std.proofs.Common.{Result, Ok, Err}
 use mathlib.Core.List.{List, ◌++◌}
 use native.Mathlib.Omega.{arith}
 use native.Mathlib.Nat.{mul-le-mul}
 use lib.ListN.{length, take, drop, length-append}
 use lib.Seq.{take-append-le, take_all}
-use borrow.Author.Tests.{le-ltb, ne_eqb}
-use Rattle.order.specs.Order.{first_of, over}
+use borrow.Author.Tests.{le-ltb}
+use Rattle.order.specs.Order.{first_of, over, number_of}
+use Rattle.order.proofs.Numbers.{number_some}
 use Rattle.network.proofs.Rows.{length_rows}
 use Rattle.designs.specs.Panels.{Panel, feed_length, feed_sheet}
 use Rattle.designs.specs.Leaves.{Read, refused, made}
 use Rattle.designs.specs.Designs.{design_of}
 use Rattle.feed_sheet.proofs.Sheet.{Within}
 use Rattle.designs.proofs.Fair.{design_fair}
-use Rattle.panels.specs.declared.Answer.{Answer}
-use Rattle.panels.specs.Answers.{room_no, answer_of, sheet_after, DesignRead}
-use Rattle.text.specs.Text.{letters, stored, Puts}
+use Rattle.designs.specs.declared.Fault.{Fault as FaultRead}
+use Rattle.panels.specs.declared.Panel.{Panel as PanelRead}
+use Rattle.panels.specs.Answers.{Answer, answer_by, room_no, answer_of, sheet_after, DesignRead}
+use Rattle.text.specs.Text.{letters, Puts}
 use Rattle.text.proofs.Numbers.{length_decimal}
-use Rattle.listing_text.proofs.Whole.{text_wanted}
-use Rattle.panel_text.specs.Panel.{two_line, refused_text, sheet_text, text_of, panel_of, answer_text}
+use Rattle.panel_text.specs.Panel.{two_line, refused_text, sheet_text, text_of, panel_of}
 use Rattle.panel_text.proofs.Places.{length_places}
+use Rattle.panel_text.proofs.Refused.{Numbered, design_numbered}
 
 -- ---- the most bytes: 37 rows of 64 places
 length_two : (word : List ℕ) (a b : ℕ) → length (two_line word a b) ≤ length word + 42
@@ -53,43 +56,56 @@ room_is : (p : Panel) (room : ℕ) → feed_length p ≤ room → room_no p.widt
 unfolding room_no first_of
 room_is p room h = rw (le-ltb _ _ h)
 
-record Told (x : Read) (after : List ℕ) (a : Answer) : Type 0 where
-  text : answer_text a (take a.filled after) ≡ text_of x
-  within : a.filled ≤ length after
-
 taken : (p : Panel) (rest : List ℕ) → take (feed_length p) (feed_sheet p ++ rest) ≡ feed_sheet p
 taken p rest =
     take-append-le (feed_length p) (feed_sheet p) rest (omega (arith, length_feed p)) ∙ take_all (feed_length p) (feed_sheet p) (omega (arith, length_feed p))
 
-module _ (before after : List ℕ) (a : Answer) (room : length before ≡ 2368) where
-  told : (x : Read) → ((p : Panel) → x ≡ made p → Within p.width p.depth) → a ≡ answer_of x (length before) → after ≡ sheet_after x before → Told x after a
-  unfolding answer_of sheet_after answer_text text_of
-  told (refused x) fair e f = record { text = rw e; within = rw e (omega arith) }
-  told (made p) fair e f =
-      let f' = fair p refl in
-      let zero-no = room_is p (length before) (rw room (few_places p f')) in
-      let some : p.width ≡ 0 → ⊥ = λ z. omega (arith, f'.some) in
-      let is : a ≡ record { refusal = 0; offset = 0; present = 0; width = p.width; depth = p.depth; filled = feed_length p } = rw zero-no at e in
-      let filled : after ≡ over (feed_sheet p) before = rw zero-no at f in
+-- a panel that is read is the design's, and its feed sheet stands in front of the sheet
+pub record Shown (x : Read) (p : PanelRead) (after : List ℕ) : Type 0 where
+  pub text : text_of x ≡ sheet_text p.width p.depth (take p.filled after)
+  pub within : p.filled ≤ length after
+  pub some : 1 ≤ p.width
+
+module _ (before after : List ℕ) (room : length before ≡ 2368) where
+  shown : (p : PanelRead) (x : Read) → ((q : Panel) → x ≡ made q → Within q.width q.depth) → Numbered x → answer_by (Ok p) ≡ answer_of x (length before)
+      → after ≡ sheet_after x before → Shown x p after
+  unfolding answer_of sheet_after text_of
+  shown p (refused x) fair numbered e f = absurd (numbered x refl (sym (ap (λ (a : Answer). a.refusal) e)))
+  shown p (made q) fair numbered e f =
+      let f' = fair q refl in
+      let zero-no = room_is q (length before) (rw room (few_places q f')) in
+      let is : answer_by (Ok p) ≡ record { refusal = 0; offset = 0; present = 0; width = q.width; depth = q.depth; filled = feed_length q } = rw zero-no at e in
+      let wide : p.width ≡ q.width = ap (λ (a : Answer). a.width) is in
+      let deep : p.depth ≡ q.depth = ap (λ (a : Answer). a.depth) is in
+      let long : p.filled ≡ feed_length q = ap (λ (a : Answer). a.filled) is in
+      let filled : after ≡ over (feed_sheet q) before = rw zero-no at f in
       record {
-        text = rw (is, filled, taken p (drop (length (feed_sheet p)) before), ne_eqb _ 0 some);
-        within = rw (is, filled, length-append (feed_sheet p) (drop (length (feed_sheet p)) before)) (omega (arith, length_feed p));
+        text = rw (wide, deep, long, filled, taken q (drop (length (feed_sheet q)) before)) refl;
+        within = rw (long, filled, length-append (feed_sheet q) (drop (length (feed_sheet q)) before)) (omega (arith, length_feed q));
+        some = omega (arith, f'.some);
       }
 
-module _ {s before after : List ℕ} {a : Answer} (room : length before ≡ 2368) (r : DesignRead s before after a) where
-  told_design : Told (design_of s) after a
-  told_design = told before after a room (design_of s) (λ p h. (design_fair s p h).within) r.answer r.sheet
+  told : (y : FaultRead) (x : Read) → ((q : Panel) → x ≡ made q → Within q.width q.depth) → answer_by (Err y) ≡ answer_of x (length before)
+      → text_of x ≡ refused_text (number_of y.refusal) y.offset
+  unfolding answer_of text_of
+  told y (refused x) fair e =
+      let number : number_of y.refusal ≡ x.refusal = ap (λ (a : Answer). a.refusal) e in
+      let offset : y.offset ≡ x.offset = ap (λ (a : Answer). a.offset) e in
+      rw (number, offset) refl
+  told y (made q) fair e =
+      let zero-no = room_is q (length before) (rw room (few_places q (fair q refl))) in
+      let is : answer_by (Err y) ≡ record { refusal = 0; offset = 0; present = 0; width = q.width; depth = q.depth; filled = feed_length q } = rw zero-no at e in
+      absurd (number_some y.refusal (ap (λ (a : Answer). a.refusal) is))
 
-  pub filled_within : a.filled ≤ length after
-  filled_within = told_design.within
+module _ {s before after : List ℕ} {r : Result PanelRead FaultRead} (room : length before ≡ 2368) (read : DesignRead s before after (answer_by r)) where
+  module _ {p : PanelRead} (is : r ≡ Ok p) where
+    pub shown_design : Shown (design_of s) p after
+    shown_design = shown before after room p (design_of s) (λ q h. (design_fair s q h).within) (design_numbered s) (rw is at read.answer) read.sheet
 
-  read_text : answer_text a (take a.filled after) ≡ panel_of s
+    pub sheet_puts : {out out' : List ℕ} {next : ℕ} → Puts (sheet_text p.width p.depth (take p.filled after)) 0 out next out' → Puts (panel_of s) 0 out next out'
+    unfolding panel_of
+    sheet_puts p = rw shown_design.text p
+
+  pub fault_puts : {x : FaultRead} → r ≡ Err x → {out out' : List ℕ} {next : ℕ} → Puts (refused_text (number_of x.refusal) x.offset) 0 out next out' → Puts (panel_of s) 0 out next out'
   unfolding panel_of
-  read_text = told_design.text
-
-  module _ {out out' : List ℕ} {next : ℕ} (p : Puts (answer_text a (take a.filled after)) 0 out next out') where
-    pub wanted_is : next ≡ length (panel_of s)
-    wanted_is = text_wanted (panel_few s) (rw read_text at p)
-
-    pub filled_is : out' ≡ stored out 0 (panel_of s)
-    filled_is = rw (← read_text) p.buffer
+  fault_puts {x} is p = rw (told before after room x (design_of s) (λ q h. (design_fair s q h).within) (rw is at read.answer)) p

@@ -5,7 +5,6 @@ use Rattle.text.specs.Numbers.{decimal}
 use Rattle.designs.specs.Panels.{feed_sheet}
 use Rattle.designs.specs.Leaves.{Read, refused, made}
 use Rattle.designs.specs.Designs.{design_of}
-use Rattle.panels.specs.declared.Answer.{Answer}
 
 -- a word, two numbers and the line feed, one blank between the numbers
 unfoldable pub two_line : List ℕ → ℕ → ℕ → List ℕ
@@ -34,7 +33,3 @@ text_of (made p) = sheet_text p.width p.depth (feed_sheet p)
 
 unfoldable pub panel_of : List ℕ → List ℕ
 panel_of s = text_of (design_of s)
-
--- the same by what reading the design answers, and the bytes that it filled: a width of 0, which no panel has, is a refusal's
-unfoldable pub answer_text : Answer → List ℕ → List ℕ
-answer_text a sheet = cond (eqb a.width 0) (refused_text a.refusal a.offset) (sheet_text a.width a.depth sheet)

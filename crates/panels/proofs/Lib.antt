@@ -1,3 +1,4 @@
 pub mod Going
 pub mod Turns
 pub mod Written
+pub mod Told

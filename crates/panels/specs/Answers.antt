@@ -1,15 +1,28 @@
 -- What reading a design answers, and the lent sheet after it (02, P3). Definitions only. Assumes nothing.
-use Rattle.std.specs.Prelude.{ℕ, ◌+◌, ◌*◌, ◌≡◌, cond, List, [], ◌∷◌, length, ltb, eqb}
+use Rattle.std.specs.Prelude.{ℕ, ◌+◌, ◌*◌, ◌≡◌, cond, List, [], ◌∷◌, length, ltb, eqb, Result, Ok, Err}
 use Rattle.order.specs.Order.{◌⟶◌, first_of, over}
-use Rattle.designs.specs.declared.Fault.{Fault}
 use Rattle.designs.specs.Panels.{feed_length, feed_sheet}
-use Rattle.designs.specs.Leaves.{Read, refused, made, fault}
+use Rattle.designs.specs.Leaves.{Fault, fault_of, Read, refused, made, fault}
 use Rattle.designs.specs.Designs.{design_of}
-use Rattle.panels.specs.declared.Answer.{Answer}
+use Rattle.panels.specs.declared.Panel.{Panel}
+
+-- the refusal number, 0 where it was carried out, the offset of the record refused, and how many bytes of it are present where it is
+-- cut; the width and the depth of the panel; and how many bytes of the feed sheet were filled
+pub record Answer : Type 0 where
+  pub refusal : ℕ
+  pub offset : ℕ
+  pub present : ℕ
+  pub width : ℕ
+  pub depth : ℕ
+  pub filled : ℕ
 
 -- a refusal gives its number, the offset of the record and how many bytes of it are present; other results are 0
 abbrev pub refusal_of : Fault → Answer
 refusal_of x = record { refusal = x.refusal; offset = x.offset; present = x.present; width = 0; depth = 0; filled = 0 }
+
+abbrev pub answer_by : Result Panel Rattle.designs.specs.declared.Fault.Fault → Answer
+answer_by (Ok p) = record { refusal = 0; offset = 0; present = 0; width = p.width; depth = p.depth; filled = p.filled }
+answer_by (Err x) = refusal_of (fault_of x)
 
 -- 3 sheet shorter than the feed sheet, last of all; it is no record's
 unfoldable pub room_no : ℕ → ℕ → ℕ → ℕ

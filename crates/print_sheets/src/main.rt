@@ -4,12 +4,8 @@
 
 use std::io;
 
-fn number(rt: HostRuntime, n: u64) -> io::Result<()> {
-    print!(rt; "{n} ")
-}
-
 fn hex(rt: HostRuntime, bytes: &[u8]) -> io::Result<()> {
-    if bytes.len() == 0 {
+    if bytes.is_empty() {
         print!(rt; "-")?;
     }
     for b in bytes {
@@ -21,32 +17,31 @@ fn hex(rt: HostRuntime, bytes: &[u8]) -> io::Result<()> {
 // One call, and its line.
 fn show_in(rt: HostRuntime, width: u16, construction: u16, out: &mut [u8]) -> io::Result<()> {
     let done = sheets::sheet(width, construction, out);
-    print!(rt; "sheet ")?;
-    number(rt, width as u64)?;
-    number(rt, construction as u64)?;
-    number(rt, done.refusal as u64)?;
-    number(rt, done.filled as u64)?;
+    let refusal = order::number_in(done);
+    let filled = done.unwrap_or(0);
+    print!(rt; "sheet {width} {construction} {refusal} {filled} ")?;
     hex(rt, out)
 }
 
 // The same on a buffer of `room` bytes, at most 2,400.
 fn show(rt: HostRuntime, width: u16, construction: u16, room: usize) -> io::Result<()> {
-    let mut buffer = [170u8; 2400];
-    if room <= 2400 {
-        show_in(rt, width, construction, &mut buffer[..room])?;
+    let mut buffer = [170; 2400];
+    if let Some(out) = buffer.get_mut(..room) {
+        show_in(rt, width, construction, out)?;
     }
     Ok(())
 }
 
 // The sheets of one construction, each in three bytes more than it needs.
 fn show_all(rt: HostRuntime, construction: u16) -> io::Result<()> {
-    let mut width = 1u16;
-    while width <= network::MAX_WIDTH {
-        let depth = network::depth_of(width, construction) as usize;
-        if depth <= 36 {
-            show(rt, width, construction, depth * (width as usize) + 3)?;
-        }
-        width = width * 2;
+    for width in [1, 2, 4, 8, 16, 32, network::MAX_WIDTH] {
+        let depth = network::depth_of(width, construction);
+        show(
+            rt,
+            width,
+            construction,
+            usize::from(depth) * usize::from(width) + 3,
+        )?;
     }
     Ok(())
 }
@@ -54,17 +49,22 @@ fn show_all(rt: HostRuntime, construction: u16) -> io::Result<()> {
 fn main(rt: HostRuntime) -> io::Result<()> {
     show_all(rt, network::BITONIC)?;
     show_all(rt, network::PERIODIC)?;
-    show(rt, 0, 1, 16)?;
-    show(rt, 3, 1, 16)?;
-    show(rt, 128, 1, 16)?;
-    show(rt, 260, 1, 16)?;
-    show(rt, 65_535, 2, 16)?;
-    show(rt, 4, 0, 16)?;
-    show(rt, 4, 3, 16)?;
-    show(rt, 64, 65_535, 16)?;
-    show(rt, 1, 0, 16)?;
-    show(rt, 4, 1, 11)?;
-    show(rt, 64, 2, 2303)?;
-    show(rt, 2, 2, 1)?;
+    let refused = [
+        (0, 1, 16),
+        (3, 1, 16),
+        (128, 1, 16),
+        (260, 1, 16),
+        (65_535, 2, 16),
+        (4, 0, 16),
+        (4, 3, 16),
+        (64, 65_535, 16),
+        (1, 0, 16),
+        (4, 1, 11),
+        (64, 2, 2303),
+        (2, 2, 1),
+    ];
+    for (width, construction, room) in refused {
+        show(rt, width, construction, room)?;
+    }
     Ok(())
 }

@@ -13,11 +13,9 @@ use Rattle.board.specs.declared.Board.{Board}
 use Rattle.board.specs.Board.{fresh_board, place_at, count_at}
 use Rattle.board.specs.Sound.{sum_of, inside_sum, sound_board}
 use Rattle.board.proofs.Sound.{Shaped, Inside, inside_at, shaped_fresh, fresh_sound}
-use Rattle.moves.specs.declared.Moved.{Moved}
-use Rattle.moves.specs.declared.Turn.TheVariants.{Refused}
-use Rattle.moves.specs.Answer.{Values, values_of}
+use Rattle.moves.specs.Answer.{Refused, Values, values_of}
 use Rattle.moves.specs.Enter.{enter_no, entering, enter_with}
-use Rattle.moves.specs.Turn.{turn_no, passing, dealing, turn_with}
+use Rattle.moves.specs.Turn.{Moved, turn_no, passing, dealing, turn_with}
 use Rattle.moves.proofs.Refusals.{CanEnter, CanTurn, can_enter, can_turn}
 use Rattle.moves.proofs.Keeps.{Leads, shaped_enter, shaped_turn, enter_sound, turn_sound}
 use Rattle.promise.specs.History.{Call, enter, turn, Deal, After, entry_of, deal_of, calls_by, entered_on}

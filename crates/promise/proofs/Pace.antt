@@ -9,6 +9,7 @@ use native.Mathlib.Nat.{mul-add, mul-le-mul_left}
 use native.Mathlib.Decide.{ℕ_discrete, dec_lt}
 use native.Mathlib.Omega.{arith}
 use borrow.Author.Tests.{le-ltb}
+use Rattle.std.proofs.lemmas.Bool.{false≢true}
 use Rattle.order.specs.Order.{first_of}
 use Rattle.rest.proofs.Sum.{only_same, only_other}
 use Rattle.board.specs.declared.Place.{Place}
@@ -49,15 +50,12 @@ module _ (d : ℕ) where
         (then.0, omega (arith, first.1, then.1));
   }
 
-pub true_not_false : true ≡ false → ⊥
-true_not_false e = let z : ◌≡◌ {A = ℕ} 0 1 = cc in omega arith
-
 -- what is inside is a token
 pub inside_token : (x : Board) (t : ℕ) → Shaped x → (place_at x t).inside ≡ true → t < 256
 unfolding place_at
 inside_token x t s i = elim (dec_lt t 256) [
   | yes l ↦ l
-  | no l ↦ absurd (true_not_false (sym i ∙ sym (ap (λ p. p.inside) (read_out free_place x.places 256 t s.places (omega arith)))))
+  | no l ↦ absurd (false≢true (ap (λ p. p.inside) (read_out free_place x.places 256 t s.places (omega arith)) ∙ i))
 ]
 
 turns_own : (t : ℕ) → turns_of t (turn t ∷ []) ≡ 1
@@ -104,7 +102,7 @@ module _ {w d : ℕ} {row : ℕ → ℕ → ℕ} {exit : ℕ → ℕ} (net : Lay
     paced_comes (Comes.enter_taken {u} {v} can) = elim (ℕ_discrete t u) [
       | yes q ↦ rw (q, place_entering x u v r.shaped can.token, dealt_none u) (record {
         most = omega arith;
-        least = λ i o. absurd (true_not_false (sym i ∙ can.free));
+        least = λ i o. absurd (false≢true (sym can.free ∙ i));
       })
       | no n ↦ paced_stays d p _ _ _ (place_entering_other x u v t n) (dealt_none t) refl
     ]

@@ -7,6 +7,7 @@ use mathlib.Core.List.{List, [], ◌∷◌, ◌++◌}
 use native.Mathlib.Decide.{ℕ_discrete}
 use native.Mathlib.Omega.{arith}
 use borrow.Author.Tests.{eq-eqb, ne_eqb}
+use Rattle.std.proofs.lemmas.Bool.{false≢true}
 use Rattle.network.specs.Widths.{depth_of}
 use Rattle.rest.specs.Sum.{only}
 use Rattle.rest.proofs.Sum.{only_same, only_other}
@@ -22,7 +23,7 @@ use Rattle.run.specs.Run.{depth_in, feeds_of, enter_of, turn_of}
 use Rattle.promise.specs.History.{Call, enter, turn, Deal, call_of, history, turns_of}
 use Rattle.promise.specs.Trace.{Names, NamesNone, TurnsName, pass_of, passes_of, Trace, done, next, Traces}
 use Rattle.promise.proofs.Boards.{Turns, Comes}
-use Rattle.promise.proofs.Pace.{true_not_false, turn_taken}
+use Rattle.promise.proofs.Pace.{turn_taken}
 use Rattle.promise.proofs.Reached.{TurnsIn, ComesIn, Reached, reached_layered, reached_fits, reached_inside, turns, comes, history_reached, reached_call, history_width, history_construction, history_depth}
 use Rattle.promise.proofs.Own.{reached_stands}
 
@@ -55,14 +56,14 @@ module _ (x : Run) (dealt : List Deal) (r : Reached x dealt) (t : ℕ) where
 
   names : {a : Values} {b : Board} → TurnsIn x t a b → a.passed ≡ true → Names x.width (depth_in x) x.board b a
   unfolding values_of dealing feeds_of
-  names (Turns.refused n) e = absurd (true_not_false (sym e))
+  names (Turns.refused n) e = absurd (false≢true e)
   names (Turns.passes can l) e = names_passing can.token can.inside l
-  names (Turns.deals can l) e = absurd (true_not_false (sym e))
+  names (Turns.deals can l) e = absurd (false≢true e)
 
   names_none : {a : Values} {b : Board} → TurnsIn x t a b → a.passed ≡ false → NamesNone x.board b a
   unfolding values_of passing dealing
   names_none (Turns.refused n) e = record { none = (refl, refl, refl); toggles = refl }
-  names_none (Turns.passes can l) e = absurd (true_not_false e)
+  names_none (Turns.passes can l) e = absurd (false≢true (sym e))
   names_none (Turns.deals can l) e = record { none = (refl, refl, refl); toggles = refl }
 
 reached_names : {x : Run} {dealt : List Deal} → Reached x dealt → (w d t : ℕ) → x.width ≡ w → depth_in x ≡ d
@@ -86,7 +87,7 @@ module _ (x : Run) (t : ℕ) (inside : (place_at x.board t).inside ≡ true) whe
   unfolding feeds_of
   stays (Comes.enter_refused n) other = refl
   stays (Comes.enter_taken {u} {v} can) other = elim (ℕ_discrete t u) [
-    | yes q ↦ absurd (true_not_false (sym inside ∙ rw q can.free))
+    | yes q ↦ absurd (false≢true (sym (rw q can.free) ∙ inside))
     | no n ↦ place_entering_other x.board u v t n
   ]
   stays (Comes.turn_refused n) other = refl

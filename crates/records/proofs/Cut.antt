@@ -1,32 +1,23 @@
 -- A record whose bytes end early. In order: the fields that are there; a record that is whole reads the same without what stands
 -- behind it; a cut head; a cut body. Assumes nothing.
-use Prim.Native.Nat.{ℕ, zero, suc, ◌+◌, ◌-◌, ◌<◌, ◌≤◌}
-use mathlib.Core.Path.{◌≡◌, ◌∙◌, ap}
+use Prim.Native.Nat.{ℕ, ◌+◌, ◌-◌, ◌<◌, ◌≤◌}
+use mathlib.Core.Path.{◌≡◌, ◌∙◌}
 use mathlib.Core.Bool.{Bool, true}
-use mathlib.Core.List.{List, [], ◌∷◌}
+use mathlib.Core.List.{List}
 use native.Mathlib.Omega.{arith}
-use native.Mathlib.Nat.{sub-zero, zero-sub}
 use lib.ListN.{length, take, drop, length-take}
-use lib.Seq.{take-take, take-nil, length-take-le}
+use lib.Seq.{take-take, length-take-le}
 use borrow.Author.Tests.{lt-ltb, le-ltb, eq-eqb}
+use Rattle.std.proofs.lemmas.Slice.{between_is}
 use Rattle.order.specs.Order.{first_of}
 use Rattle.records.specs.declared.Record.{Record}
-use Rattle.records.specs.declared.Read.TheVariants.{Got, Refused}
 use Rattle.records.specs.Fields.{field}
-use Rattle.records.specs.Reading.{length_of, known, length_in, kind_in, record_in, read_no, present_of, read_of}
+use Rattle.records.specs.Reading.{Got, Refused, length_of, known, length_in, kind_in, record_in, read_no, present_of, read_of}
 use Rattle.records.proofs.Reading.{Whole, whole→read, read→gotten, by_kind}
 
--- ---- the first m bytes of s, from a place on
-pub drop_take : (i m : ℕ) (s : List ℕ) → drop i (take m s) ≡ take (m - i) (drop i s)
-drop_take zero m s = rw (sub-zero m)
-drop_take (suc i) m [] = rw (take-nil m, take-nil (m - suc i))
-drop_take (suc i) zero (b ∷ s) = rw (zero-sub (suc i))
-drop_take (suc i) (suc m) (b ∷ s) =
-    let less : m - i ≡ suc m - suc i = omega arith in
-    drop_take i m s ∙ ap (λ (k : ℕ). take k (drop i s)) less
-
+-- ---- the first m bytes of s
 pub field_take : (n m : ℕ) (s : List ℕ) (at : ℕ) → at + n ≤ m → field n (take m s) at ≡ field n s at
-field_take n m s at h = rw (drop_take at m s, take-take n (m - at) (drop at s) (omega arith))
+field_take n m s at h = rw (← between_is s at m, take-take n (m - at) (drop at s) (omega arith))
 
 record_take : (reports : Bool) (m : ℕ) (s : List ℕ) (k : ℕ) → known reports k ≡ true → length_of k ≤ m → record_in k (take m s) ≡ record_in k s
 unfolding record_in length_of

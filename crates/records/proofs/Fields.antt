@@ -2,24 +2,22 @@
 -- the bytes of a field and back. Assumes nothing.
 use Prim.Native.Nat.{ℕ, zero, suc, ◌+◌, ◌*◌, ◌/◌, ◌%◌, ◌^◌, ◌<◌, ◌≤◌}
 use mathlib.Core.Path.{◌≡◌, refl, sym, ◌∙◌, ap}
-use mathlib.Core.List.{List, [], ◌∷◌, ◌++◌}
+use mathlib.Core.List.{List, [], ◌∷◌}
 use native.Mathlib.Omega.{arith}
-use native.Mathlib.Nat.{add-zero, pow-succ'}
-use lib.ListN.{length, get_or, take, drop, length-drop, get_or-eq_default}
-use lib.Seq.{get_or-drop, get_or-take, drop-drop, length-take-le}
+use native.Mathlib.Nat.{pow-succ'}
+use lib.ListN.{length, get_or, take, drop, length-drop}
+use lib.Seq.{get_or-drop, get_or-take, length-take-le}
+use Rattle.std.specs.Int.{w32, to_le_bytes}
 use Rattle.records.specs.Fields.{spelt, field, bytes_in}
 
-spelt_two : (s : List ℕ) → spelt (take 2 s) ≡ get_or s 0 0 + 256 * get_or s 1 0
+-- a byte past the end counts as 0
+pub spelt_two : (s : List ℕ) → spelt (take 2 s) ≡ get_or s 0 0 + 256 * get_or s 1 0
 unfolding spelt
 spelt_two [] = refl
 spelt_two (a ∷ []) = refl
 spelt_two (a ∷ b ∷ s) = omega arith
 
--- a byte past the end counts as 0
-pub field_two : (s : List ℕ) (at : ℕ) → field 2 s at ≡ get_or s at 0 + 256 * get_or s (at + 1) 0
-field_two s at = spelt_two (drop at s) ∙ rw (get_or-drop at s 0 0, get_or-drop at s 1 0, add-zero at)
-
-spelt_four : (s : List ℕ) → spelt (take 4 s) ≡ spelt (take 2 s) + 65536 * spelt (take 2 (drop 2 s))
+pub spelt_four : (s : List ℕ) → spelt (take 4 s) ≡ get_or s 0 0 + 256 * get_or s 1 0 + 65536 * get_or s 2 0 + 16777216 * get_or s 3 0
 unfolding spelt
 spelt_four [] = refl
 spelt_four (a ∷ []) = omega arith
@@ -27,28 +25,13 @@ spelt_four (a ∷ b ∷ []) = omega arith
 spelt_four (a ∷ b ∷ c ∷ []) = omega arith
 spelt_four (a ∷ b ∷ c ∷ d ∷ s) = omega arith
 
-pub field_four : (s : List ℕ) (at : ℕ) → field 4 s at ≡ field 2 s at + 65536 * field 2 s (at + 2)
-field_four s at = spelt_four (drop at s) ∙ rw (drop-drop 2 at s)
-
-mod_past : (a q : ℕ) → (a + 256 * q) % 256 ≡ a % 256
-mod_past a q = omega arith
-
--- past the end there is only 0
-pub field_past : (s : List ℕ) (at : ℕ) → length s ≤ at → field 2 s at ≡ 0
-field_past s at h =
-    rw (field_two, get_or-eq_default s 0 h, get_or-eq_default s 0 {n = at + 1} (omega arith))
-
-pub field_four_past : (s : List ℕ) (at : ℕ) → length s ≤ at → field 4 s at ≡ 0
-field_four_past s at h = rw (field_four, field_past s at h, field_past s (at + 2) (omega arith))
-
-pub bytes_in_four : (x : ℕ) → bytes_in 4 x ≡ bytes_in 2 (x % 65536) ++ bytes_in 2 (x / 65536)
+-- the library's bytes of a number are these
+pub bytes_in_four : (x : ℕ) → to_le_bytes w32 x ≡ bytes_in 4 x
 unfolding bytes_in
 bytes_in_four x =
-    let low : x % 65536 % 256 ≡ x % 256 = omega arith in
-    let split : x / 256 ≡ x % 65536 / 256 + 256 * (x / 65536) = omega arith in
-    let next : x % 65536 / 256 % 256 ≡ x / 256 % 256 = rw (split, mod_past (x % 65536 / 256)) in
-    let half : x / 65536 ≡ x / 256 / 256 = omega arith in
-    rw (low, next, half)
+    let third : x / 65536 ≡ x / 256 / 256 = omega arith in
+    let fourth : x / 16777216 ≡ x / 256 / 256 / 256 = omega arith in
+    rw (third, fourth)
 
 -- a number that fits its field is spelt by its bytes
 pub spelt_bytes_in : (n x : ℕ) → x < 256 ^ n → spelt (bytes_in n x) ≡ x

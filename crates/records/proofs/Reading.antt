@@ -2,18 +2,18 @@
 -- record read. Assumes nothing.
 use Prim.Native.Nat.{ℕ, zero, suc, ◌≤◌}
 use mathlib.Core.Path.{◌≡◌, refl, sym, ◌∙◌, ap}
-use mathlib.Core.Bool.{Bool, true, false, cond, ◌&&◌, ◌||◌}
-use mathlib.Core.Logic.{◌⊎◌, inl, inr, ⊎_elim}
+use mathlib.Core.Bool.{Bool, true, false, cond, ◌&&◌}
+use mathlib.Core.Logic.{⊎_elim}
 use mathlib.Core.List.{List}
 use native.Mathlib.Omega.{arith}
 use lib.ListN.{length}
 use lib.Dec.{leb, eqb, lit≤}
 use borrow.Author.Tests.{ltb-false, leb-true, eqb-true, not-false, le-ltb, eq-eqb}
+use Rattle.std.proofs.lemmas.Bool.{and_parts, or_cases}
 use Rattle.order.specs.Order.{first_of}
 use Rattle.order.proofs.Order.{cleared}
 use Rattle.records.specs.declared.Record.{Record}
-use Rattle.records.specs.declared.Read.TheVariants.{Got, Refused}
-use Rattle.records.specs.Reading.{length_of, known, length_in, kind_in, record_in, read_no, read_of}
+use Rattle.records.specs.Reading.{Got, Refused, length_of, known, length_in, kind_in, record_in, read_no, read_of}
 use Rattle.records.specs.Writing.{kind_of, size_of}
 
 -- bytes whose first record is whole
@@ -67,19 +67,12 @@ from_one P a b c d (suc (suc (suc zero))) l h = c
 from_one P a b c d (suc (suc (suc (suc zero)))) l h = d
 from_one P a b c d (suc (suc (suc (suc (suc k))))) l h = absurd (omega arith)
 
-either : (x y b z : Bool) → (x && y) || (b && z) ≡ true → ((x ≡ true) × (y ≡ true)) ⊎ ((b ≡ true) × (z ≡ true))
-either true true b z h = inl (refl, refl)
-either true false true z h = inr (refl, h)
-either true false false z h = let no : ◌≡◌ {A = ℕ} 0 1 = cc in absurd (omega arith)
-either false y true z h = inr (refl, h)
-either false y false z h = let no : ◌≡◌ {A = ℕ} 0 1 = cc in absurd (omega arith)
-
 pub by_kind : (P : ℕ → Type 0) (reports : Bool) → P 1 → P 2 → P 3 → P 4 → (reports ≡ true → P 5) → (k : ℕ) → known reports k ≡ true → P k
 unfolding known
 by_kind P reports a b c d e k h =
-    ⊎_elim (λ few. from_one P a b c d k (leb-true _ _ few.0) (leb-true _ _ few.1))
-    (λ five. rw (eqb-true k 5 five.1) (e five.0))
-    (either (leb 1 k) (leb k 4) reports (eqb k 5) h)
+    ⊎_elim (λ few. let f = and_parts _ _ few in from_one P a b c d k (leb-true _ _ f.0) (leb-true _ _ f.1))
+    (λ five. let f = and_parts _ _ five in rw (eqb-true k 5 f.1) (e f.0))
+    (or_cases (leb 1 k && leb k 4) (reports && eqb k 5) h)
 
 -- ---- the length of a record read
 pub record ReadLength (s : List ℕ) (r : Record) (n : ℕ) : Type 0 where

@@ -9,11 +9,11 @@ use lib.ListN.{length, get_or, take, drop}
 use lib.Seq.{take-add, drop-drop}
 use lib.Dec.{ltb}
 use borrow.Author.Tests.{ltb-true}
+use Rattle.std.proofs.lemmas.Bool.{and_parts}
 use Rattle.records.specs.declared.Record.{Record}
 use Rattle.records.specs.declared.Record.TheVariants.{Open, Enter, Turn, Close, Number}
-use Rattle.records.specs.declared.Read.TheVariants.{Got}
 use Rattle.records.specs.Fields.{spelt, field, bytes_in}
-use Rattle.records.specs.Reading.{length_of, known, kind_in, record_in, read_of}
+use Rattle.records.specs.Reading.{Got, length_of, known, kind_in, record_in, read_of}
 use Rattle.records.specs.Writing.{kind_of, fields_of, size_of, bytes_of}
 use Rattle.records.specs.RoundTrips.{fits, RoundTrips}
 use Rattle.records.proofs.Fields.{spelt_bytes_in, bytes_in_field}
@@ -50,20 +50,20 @@ four x h = spelt_bytes_in 4 x (ltb-true _ _ h)
 record_bytes_of : (r : Record) (rest : List ℕ) → fits r ≡ true → record_in (kind_of r) (bytes_of r ++ rest) ≡ r
 unfolding record_in bytes_of fits spelt bytes_in
 record_bytes_of (Open w c) rest h =
-    let f = both (ltb w (2 ^ 16)) _ h in
+    let f = and_parts (ltb w (2 ^ 16)) _ h in
     let a = two w f.0 in
     let b = two c f.1 in
     cc
 record_bytes_of (Enter t v) rest h =
-    let f = both (ltb t (2 ^ 16)) _ h in
+    let f = and_parts (ltb t (2 ^ 16)) _ h in
     let a = two t f.0 in
     let b = two v f.1 in
     cc
 record_bytes_of (Turn t) rest h = let a = two t h in cc
 record_bytes_of (Close e) rest h = let a = four e h in cc
 record_bytes_of (Number t v n) rest h =
-    let f = both (ltb t (2 ^ 16) && ltb v (2 ^ 16)) _ h in
-    let g = both (ltb t (2 ^ 16)) _ f.0 in
+    let f = and_parts (ltb t (2 ^ 16) && ltb v (2 ^ 16)) _ h in
+    let g = and_parts (ltb t (2 ^ 16)) _ f.0 in
     let a = two t g.0 in
     let b = two v g.1 in
     let d = four n f.1 in

@@ -1,20 +1,24 @@
 -- Laws of writing. In order: bytes placed behind bytes; the length of a record's bytes; what the writer answers and leaves.
 -- Assumes nothing.
 use Prim.Native.Nat.{ℕ, ◌+◌, ◌≤◌, ◌<◌}
-use mathlib.Core.Path.{◌≡◌, refl, ◌∙◌}
-use mathlib.Core.List.{List, [], ◌∷◌, ◌++◌, append_assoc}
+use mathlib.Core.Path.{◌≡◌, refl, sym, ◌∙◌}
+use mathlib.Core.List.{List, ◌++◌, append_assoc}
 use native.Mathlib.Omega.{arith}
-use native.Mathlib.Numerals.{add-one}
 use native.Mathlib.Nat.{add_assoc, zero-add}
-use lib.ListN.{length, take, drop, set, length-append}
-use lib.Seq.{sets-eq, length-take-le, take_at, drop_at, drop-drop}
+use lib.ListN.{length, take, drop, length-append}
+use lib.Seq.{length-take-le, take_at, drop_at, drop-drop}
 use borrow.Author.Tests.{lt-ltb, le-ltb}
+use borrow.Rule.Slice.PartMut.{put_mid}
+use Rattle.std.proofs.Common.{Ok, Err}
+use Rattle.std.proofs.lemmas.Slice.{put_mid-paste}
+use Rattle.std.proofs.lemmas.List.Edits.{paste_all}
 use Rattle.records.specs.declared.Record.{Record}
 use Rattle.records.specs.declared.Record.TheVariants.{Open, Enter, Turn, Close, Number}
 use Rattle.records.specs.Fields.{bytes_in, placed}
 use Rattle.records.specs.Reading.{length_of}
 use Rattle.records.specs.Writing.{fields_of, size_of, bytes_of, write_no, Writes}
 use Rattle.order.specs.Order.{first_of, over}
+use Rattle.order.specs.declared.Refusal.TheVariants as Refusal
 
 -- ---- placing
 module _ (out : List ℕ) (at : ℕ) (a : List ℕ) (within : at ≤ length out) where
@@ -22,7 +26,7 @@ module _ (out : List ℕ) (at : ℕ) (a : List ℕ) (within : at ≤ length out)
   length_front = rw (length-append, length-take-le)
 
   -- more bytes behind those placed
-  pub placed_placed : (b : List ℕ) → placed (placed out at a) (at + length a) b ≡ placed out at (a ++ b)
+  placed_placed : (b : List ℕ) → placed (placed out at a) (at + length a) b ≡ placed out at (a ++ b)
   unfolding placed
   placed_placed b =
       let front : List ℕ = take at out ++ a in
@@ -39,14 +43,16 @@ module _ (out : List ℕ) (at : ℕ) (a : List ℕ) (within : at ≤ length out)
         append_assoc a b,
       )
 
-  pub placed_then : (b between after : List ℕ) (next : ℕ) → between ≡ placed out at a → next ≡ at + length a
-      → after ≡ placed between next b → after ≡ placed out at (a ++ b)
-  placed_then b between after next first e last = last ∙ rw (first, e) (placed_placed b)
+-- the same at the place that the first bytes end at, however it is written
+pub placed_more : (out : List ℕ) (at : ℕ) (a : List ℕ) (next : ℕ) (b : List ℕ) → next ≡ at + length a → at ≤ length out
+    → placed (placed out at a) next b ≡ placed out at (a ++ b)
+placed_more out at a next b e within = rw e (placed_placed out at a within b)
 
--- two bytes stored one behind the other
-pub placed_two : (out : List ℕ) (at x y : ℕ) → at + 2 ≤ length out → set (set out at x) (at + 1) y ≡ placed out at (x ∷ y ∷ [])
+-- bytes copied into the part from a place on
+pub placed_part : (out part bytes : List ℕ) (at k : ℕ) → k ≡ length bytes → part ≡ bytes → put_mid at k out part ≡ placed out at bytes
 unfolding placed
-placed_two out at x y fits = rw (add-one at, ← append_assoc) (sets-eq (x ∷ y ∷ []) out at fits)
+placed_part out part bytes at k long copied =
+    put_mid-paste at k out part bytes (length bytes) copied (sym long) refl ∙ paste_all out at bytes (length bytes) refl
 
 pub size_fields : (r : Record) → size_of r ≡ 4 + length (fields_of r)
 unfolding size_of length_of bytes_in
@@ -71,12 +77,12 @@ over_more out done bytes =
     rw (← placed_front out done, ← placed_front out (done ++ bytes), ← placed_placed out 0 done (omega arith) bytes, zero-add (length done))
 
 module _ (r : Record) (out : List ℕ) (size : ℕ) (is_size : size ≡ size_of r) where
-  pub writes_none : length out < size → Writes r out (record { refusal = 17; filled = 0 }) out
+  pub writes_none : length out < size → Writes r out (Err Refusal.NoRoom) out
   unfolding write_no first_of
   writes_none short = record { answer = rw (← is_size, lt-ltb _ _ short); buffer = rw (← is_size, lt-ltb _ _ short) }
 
   pub writes_all : (after : List ℕ) → size ≤ length out → after ≡ placed out 0 (bytes_of r)
-      → Writes r out (record { refusal = 0; filled = size }) after
+      → Writes r out (Ok size) after
   unfolding write_no first_of
   writes_all after fits e =
       record {

@@ -1,10 +1,10 @@
 -- A record read from bytes (01, "Schedule bytes"). Definitions only. Assumes nothing.
-use Rattle.std.specs.Prelude.{ℕ, List, [], ◌∷◌, Bool, not, cond, ◌&&◌, ◌||◌, length, ltb, leb, eqb}
-use Rattle.order.specs.Order.{◌⟶◌, first_of}
+use Rattle.std.specs.Prelude.{ℕ, List, [], ◌∷◌, Bool, not, cond, ◌&&◌, ◌||◌, length, ltb, leb, eqb, Result, Ok, Err}
+use Rattle.order.specs.Order.{◌⟶◌, first_of, number_of}
 use Rattle.records.specs.declared.Record.{Record}
 use Rattle.records.specs.declared.Record.TheVariants.{Open, Enter, Turn, Close, Number}
-use Rattle.records.specs.declared.Read.{Read}
-use Rattle.records.specs.declared.Read.TheVariants.{Got, Refused}
+use Rattle.records.specs.declared.Got.{Got as GotRecord}
+use Rattle.records.specs.declared.Unread.{Unread}
 use Rattle.records.specs.Fields.{field}
 
 -- the length of a record of a kind: 1 open, 2 enter, 3 turn, 4 close, 5 number; 0 where there is no such kind
@@ -45,8 +45,17 @@ read_no reports s =
 unfoldable pub present_of : ℕ → ℕ → ℕ
 present_of number n = cond (eqb number 11 || eqb number 23) n 0
 
--- the record and its length, or the refusal
+-- what reading gives: the record and its length, or the number of the refusal and how many bytes of the record are present
+pub data Read : Type 0 where
+  Got : Record → ℕ → Read
+  Refused : ℕ → ℕ → Read
+
 unfoldable pub read_of : Bool → List ℕ → Read
 read_of reports s =
     let number = read_no reports s in
     cond (eqb number 0) (Got (record_in (kind_in s) s) (length_of (kind_in s))) (Refused number (present_of number (length s)))
+
+-- what the code answers, in numbers
+abbrev pub read_by : Result GotRecord Unread → Read
+read_by (Ok g) = Got g.record g.length
+read_by (Err u) = Refused (number_of u.refusal) u.present

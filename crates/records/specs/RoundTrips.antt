@@ -2,8 +2,7 @@
 use Rattle.std.specs.Prelude.{ℕ, ◌<◌, ◌^◌, ◌≡◌, List, ◌++◌, Bool, true, ◌&&◌, length, get_or, take, ltb}
 use Rattle.records.specs.declared.Record.{Record}
 use Rattle.records.specs.declared.Record.TheVariants.{Open, Enter, Turn, Close, Number}
-use Rattle.records.specs.declared.Read.TheVariants.{Got}
-use Rattle.records.specs.Reading.{read_of}
+use Rattle.records.specs.Reading.{Got, read_of}
 use Rattle.records.specs.Writing.{bytes_of}
 
 -- the fields of a record are of 16 and 32 bits

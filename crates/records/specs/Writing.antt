@@ -1,7 +1,7 @@
 -- A record written as bytes (01, "Schedule bytes"). Definitions only. Assumes nothing.
-use Rattle.std.specs.Prelude.{ℕ, ◌≡◌, List, [], ◌∷◌, ◌++◌, cond, length, ltb, eqb}
-use Rattle.order.specs.declared.Filled.{Filled}
-use Rattle.order.specs.Order.{◌⟶◌, first_of, filled_of, over}
+use Rattle.std.specs.Prelude.{ℕ, ◌≡◌, List, [], ◌∷◌, ◌++◌, cond, length, ltb, eqb, Result}
+use Rattle.order.specs.declared.Refusal.{Refusal}
+use Rattle.order.specs.Order.{◌⟶◌, first_of, filled_by, filled_of, over}
 use Rattle.records.specs.declared.Record.{Record}
 use Rattle.records.specs.declared.Record.TheVariants.{Open, Enter, Turn, Close, Number}
 use Rattle.records.specs.Fields.{bytes_in}
@@ -32,6 +32,6 @@ unfoldable pub write_no : Record → ℕ → ℕ
 write_no r room = first_of ((ltb room (size_of r) ⟶ 17) ∷ [])
 
 -- what is answered, and the buffer after it: the record's bytes stand in front and the rest stays; a refusal changes nothing
-pub record Writes (item : Record) (before : List ℕ) (r : Filled) (after : List ℕ) : Type 0 where
-  pub answer : r ≡ filled_of (write_no item (length before)) (size_of item)
+pub record Writes (item : Record) (before : List ℕ) (r : Result ℕ Refusal) (after : List ℕ) : Type 0 where
+  pub answer : filled_by r ≡ filled_of (write_no item (length before)) (size_of item)
   pub buffer : after ≡ cond (eqb (write_no item (length before)) 0) (over (bytes_of item) before) before

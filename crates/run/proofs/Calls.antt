@@ -1,7 +1,7 @@
 -- What each way through a call comes to. In order: opening, entering, turns. Assumes nothing.
 use mathlib.Core.Path.{◌≡◌, sym, ◌∙◌}
 use mathlib.Core.List.{[], ◌∷◌}
-use mathlib.Core.Bool.{true, false, not}
+use mathlib.Core.Bool.{true, not}
 use lib.Dec.{ltb}
 use Prim.Native.Nat.{ℕ, ◌<◌, ◌≤◌}
 use native.Mathlib.Omega.{arith}
@@ -12,20 +12,15 @@ use Rattle.network.specs.Widths.{open_no, depth_of}
 use Rattle.network.specs.Rows.{place_of}
 use Rattle.network.proofs.Widths.{depth_of_small, width_small}
 use Rattle.board.specs.declared.Place.{Place}
-use Rattle.moves.specs.declared.Boarded.{Boarded}
-use Rattle.moves.specs.declared.Moved.{Moved}
-use Rattle.moves.specs.declared.Turn.TheVariants.{Refused}
 use Rattle.board.specs.Board.{place_at, count_at}
-use Rattle.moves.specs.Enter.{enter_no, enter_with}
-use Rattle.moves.specs.Turn.{turn_no, passing, dealing, turn_with}
+use Rattle.moves.specs.Answer.{Refused}
+use Rattle.moves.specs.Enter.{Boarded, enter_with}
+use Rattle.moves.specs.Turn.{turn_no, Moved, passing, dealing, turn_with}
 use Rattle.board.proofs.Sound.{inside_at, count_le}
 use Rattle.board.proofs.Sound as board
 use Rattle.moves.proofs.Refusals.{can_turn, turn_no_at}
 use Rattle.run.specs.declared.Run.{Run}
-use Rattle.run.specs.declared.Opened.{Opened}
-use Rattle.run.specs.declared.Entered.{Entered}
-use Rattle.run.specs.declared.Turned.{Turned}
-use Rattle.run.specs.Run.{fresh, open_of, depth_in, sound, with_board, enter_of, feeds_of, turn_of}
+use Rattle.run.specs.Run.{Opened, Entered, Turned, fresh, open_of, depth_in, sound, with_board, enter_of, feeds_of, turn_of}
 use Rattle.run.proofs.Keeps.{parts}
 
 -- ---- opening
@@ -37,16 +32,6 @@ module _ (w c n : ℕ) (x : Run) (e : n ≡ open_no w c) where
   pub opens_not : (n ≡ 0 → ⊥) → x ≡ fresh 0 0 → ◌≡◌ {A = Opened} (record { refusal = n; run = x }) (open_of w c)
   unfolding open_of
   opens_not z f = rw (← e, ne_eqb n 0 z, f)
-
--- ---- a run that is not sound
-module _ (x : Run) (t : ℕ) (h : sound x ≡ false) where
-  pub enters_unsound : (v : ℕ) → ◌≡◌ {A = Entered} (record { refusal = 9; run = x }) (enter_of x t v)
-  unfolding enter_of enter_with enter_no first_of
-  enters_unsound v = rw h
-
-  pub turns_unsound : ◌≡◌ {A = Turned} (record { answer = Refused 9; run = x }) (turn_of x t)
-  unfolding turn_of turn_with turn_no first_of
-  turns_unsound = rw h
 
 -- ---- a run that is sound
 pub enters : (x : Run) (t v : ℕ) (e : Boarded) → sound x ≡ true → e ≡ enter_with true x.width x.board t v → ◌≡◌ {A = Entered} (record { refusal = e.refusal; run = with_board x e.board }) (enter_of x t v)

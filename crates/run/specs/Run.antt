@@ -1,16 +1,40 @@
 -- A run (01, "A run"): opening, soundness, enter and turn. Definitions only. Assumes nothing.
-use Rattle.std.specs.Prelude.{ℕ, Bool, cond, ◌&&◌, eqb}
+use Rattle.std.specs.Prelude.{ℕ, Bool, cond, ◌&&◌, eqb, ⊤}
+use Rattle.order.specs.declared.After.{After}
+use Rattle.order.specs.Order.{refused_by}
 use Rattle.network.specs.Widths.{width_ok, construction_ok, open_no, depth_of}
 use Rattle.network.specs.Rows.{place_of}
 use Rattle.board.specs.declared.Board.{Board}
 use Rattle.board.specs.Board.{fresh_board, place_at}
 use Rattle.board.specs.Sound.{sound_board}
+use Rattle.moves.specs.declared.Turn.{Turn}
+use Rattle.moves.specs.Answer.{Answer, answered}
 use Rattle.moves.specs.Enter.{enter_with}
 use Rattle.moves.specs.Turn.{turn_with}
 use Rattle.run.specs.declared.Run.{Run}
-use Rattle.run.specs.declared.Opened.{Opened}
-use Rattle.run.specs.declared.Entered.{Entered}
-use Rattle.run.specs.declared.Turned.{Turned}
+
+-- what an opening gives, what entering gives, and what a turn gives: the refusal's number, 0 where it was carried out, or the
+-- turn's answer, and the run after it
+pub record Opened : Type 0 where
+  pub refusal : ℕ
+  pub run : Run
+
+pub record Entered : Type 0 where
+  pub refusal : ℕ
+  pub run : Run
+
+pub record Turned : Type 0 where
+  pub answer : Answer
+  pub run : Run
+
+abbrev pub opened : After Run ⊤ → Opened
+opened a = record { refusal = refused_by a.answer; run = a.state }
+
+abbrev pub entered : After Run ⊤ → Entered
+entered a = record { refusal = refused_by a.answer; run = a.state }
+
+abbrev pub turned : After Run Turn → Turned
+turned a = record { answer = answered a.answer; run = a.state }
 
 -- a run as it opens
 unfoldable pub fresh : ℕ → ℕ → Run

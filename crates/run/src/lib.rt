@@ -2,38 +2,19 @@
 // back as it was.
 #![tactic(auto)]
 
-ghost use Rattle.std.specs.Prelude.{◌≡◌, true, ◌<◌};
-ghost use Rattle.network.specs.Widths.{depth_of};
-ghost use Rattle.network.specs.Rows.{place_of};
+ghost use Rattle.std.specs.Prelude.{◌≡◌, true};
 ghost use Rattle.run.specs.Limits.{LimitsAre};
-ghost use Rattle.run.specs.Run.{fresh, open_of, sound, with_board, enter_of, turn_of};
+ghost use Rattle.run.specs.Run.{opened, entered, turned, fresh, open_of, sound, enter_of, turn_of};
 
-use board::{Board, Place};
-use moves::{Moved, Turn};
+use board::Board;
+use moves::Turn;
+use order::{After, Refusal};
 
 #[derive(Clone, Copy)]
 pub struct Run {
     pub width: u16,
     pub construction: u16,
     pub board: Board,
-}
-
-#[derive(Clone, Copy)]
-pub struct Opened {
-    pub refusal: u8,
-    pub run: Run,
-}
-
-#[derive(Clone, Copy)]
-pub struct Entered {
-    pub refusal: u8,
-    pub run: Run,
-}
-
-#[derive(Clone, Copy)]
-pub struct Turned {
-    pub answer: Turn,
-    pub run: Run,
 }
 
 // The constants of a run, as a value that a contract can speak of.
@@ -57,37 +38,14 @@ fn constants() -> Limits
     }
 }
 
+#[tactic(auto, unfolding(crate::specs::Run::fresh))]
 fn made(width: u16, construction: u16) -> Run
     ensures { result ≡ fresh width construction }
 {
-    let board = board::fresh();
     Run {
         width,
         construction,
-        board,
-    }
-}
-
-// The place that a token's wire feeds, below the width.
-fn feeds_at(width: u16, construction: u16, place: Place) -> u8
-    requires { (place.level < depth_of width construction) × (place.wire < width) }
-    ensures { result ≡ place_of width construction place.level place.wire }
-{
-    network::place_of(width, construction, place.level, place.wire) as u8
-}
-
-fn moved_on(run: Run, moved: Moved) -> Turned
-    ensures { result ≡ record { answer = moved.answer; run = with_board run moved.board } }
-{
-    let answer = moved.answer;
-    let board = moved.board;
-    Turned {
-        answer,
-        run: Run {
-            width: run.width,
-            construction: run.construction,
-            board,
-        },
+        board: board::fresh(),
     }
 }
 
@@ -101,99 +59,102 @@ impl Run {
     pub const PERIODIC: u16 = network::PERIODIC;
 
     // A run with nothing entered; refused by 1 and 2, with a record of width 0 and construction 0, which is not sound.
-    pub fn open(width: u16, construction: u16) -> Opened
-        ensures { result ≡ open_of width construction }
+    #[tactic(auto, using(order::proofs::Numbers::number_some), unfolding(crate::specs::Run::open_of))]
+    pub fn open(width: u16, construction: u16) -> After<Run, ()>
+        ensures { opened result ≡ open_of width construction }
     {
-        let refusal = network::open_refusal(width, construction);
-        if refusal == 0 {
-            let run = made(width, construction);
-            return Opened { refusal, run };
-        }
-        let run = made(0, 0);
-        Opened { refusal, run }
-    }
-
-    pub fn is_sound(self) -> bool
-        ensures { result ≡ sound self }
-    {
-        let width = self.width;
-        let construction = self.construction;
-        let board = self.board;
-        let allowed = network::width_ok(width);
-        let known = network::construction_ok(construction);
-        let depth = network::depth_of(width, construction);
-        let good = board::is_sound(board, width, depth);
-        allowed & known & good
-    }
-
-    // A token enters on a wire of level 0; refused by 9, 4, 5, 6, 7.
-    pub fn enter(self, token: u16, wire: u16) -> Entered
-        ensures { result ≡ enter_of self token wire }
-    {
-        let good = self.is_sound();
-        if good {
-            return self.enter_sound(token, wire);
-        }
-        Entered {
-            refusal: 9,
-            run: self,
-        }
-    }
-
-    // A token inside passes its next cell, or is dealt a number at its exit; refused by 9, 4, 8.
-    pub fn turn(self, token: u16) -> Turned
-        ensures { result ≡ turn_of self token }
-    {
-        let sound = self.is_sound();
-        if sound {
-            return self.turn_sound(token);
-        }
-        Turned {
-            answer: Turn::Refused(9),
-            run: self,
-        }
-    }
-
-    // The same of a run that is known to be sound, for a caller that judged it once: every call keeps it so.
-    pub fn enter_sound(self, token: u16, wire: u16) -> Entered
-        requires { sound self ≡ true }
-        ensures { result ≡ enter_of self token wire }
-    {
-        let board = self.board;
-        let entered = moves::enter(board, self.width, token, wire);
-        let after = entered.board;
-        Entered {
-            refusal: entered.refusal,
-            run: Run {
-                width: self.width,
-                construction: self.construction,
-                board: after,
+        match network::check_open(width, construction) {
+            Ok(()) => After {
+                state: made(width, construction),
+                answer: Ok(()),
+            },
+            Err(refusal) => After {
+                state: made(0, 0),
+                answer: Err(refusal),
             },
         }
     }
 
-    pub fn turn_sound(self, token: u16) -> Turned
-        requires { sound self ≡ true }
-        ensures { result ≡ turn_of self token }
+    #[tactic(auto, unfolding(crate::specs::Run::sound, crate::specs::Run::depth_in))]
+    pub fn is_sound(self) -> bool
+        ensures { result ≡ sound self }
     {
-        let board = self.board;
-        let width = self.width;
-        let places = board.places;
-        let place = moves::place_at(places, token);
-        let refusal = moves::turn_refusal(token, place);
-        if refusal != 0 {
-            return Turned {
-                answer: Turn::Refused(refusal),
-                run: self,
+        let allowed = network::width_ok(self.width);
+        let known = network::construction_ok(self.construction);
+        let depth = network::depth_of(self.width, self.construction);
+        let good = board::is_sound(&self.board, self.width, depth);
+        allowed & known & good
+    }
+
+    // A token enters on a wire of level 0; refused by 9, 4, 5, 6, 7.
+    #[tactic(auto, unfolding(crate::specs::Run::enter_of, moves::specs::Enter::enter_with, moves::specs::Enter::enter_no, order::specs::Order::first_of))]
+    pub fn enter(self, token: u16, wire: u16) -> After<Run, ()>
+        ensures { entered result ≡ enter_of self token wire }
+    {
+        if self.is_sound() {
+            return self.enter_sound(token, wire);
+        }
+        After {
+            state: self,
+            answer: Err(Refusal::NotSound),
+        }
+    }
+
+    // A token inside passes its next cell, or is dealt a number at its exit; refused by 9, 4, 8.
+    #[tactic(auto, unfolding(crate::specs::Run::turn_of, moves::specs::Turn::turn_with, moves::specs::Turn::turn_no, order::specs::Order::first_of))]
+    pub fn turn(self, token: u16) -> After<Run, Turn>
+        ensures { turned result ≡ turn_of self token }
+    {
+        if self.is_sound() {
+            return self.turn_sound(token);
+        }
+        After {
+            state: self,
+            answer: Err(Refusal::NotSound),
+        }
+    }
+
+    // The same of a run that is known to be sound, for a caller that judged it once: every call keeps it so.
+    #[tactic(auto, unfolding(crate::specs::Run::enter_of))]
+    pub fn enter_sound(self, token: u16, wire: u16) -> After<Run, ()>
+        requires { sound self ≡ true }
+        ensures { entered result ≡ enter_of self token wire }
+    {
+        let entered = moves::enter(self.board, self.width, token, wire);
+        After {
+            state: Run {
+                board: entered.state,
+                ..self
+            },
+            answer: entered.answer,
+        }
+    }
+
+    #[tactic(auto, using(order::proofs::Numbers::number_some), unfolding(crate::specs::Run::turn_of, crate::specs::Run::feeds_of, crate::specs::Run::depth_in, moves::specs::Turn::turn_with, moves::specs::Turn::turn_no, board::specs::Board::place_at, order::specs::Order::first_of))]
+    pub fn turn_sound(self, token: u16) -> After<Run, Turn>
+        requires { sound self ≡ true }
+        ensures { turned result ≡ turn_of self token }
+    {
+        let place = moves::place_at(&self.board.places, token);
+        if let Err(refusal) = moves::check_turn(token, place) {
+            return After {
+                state: self,
+                answer: Err(refusal),
             };
         }
-        let depth = network::depth_of(width, self.construction);
-        if place.level < depth {
-            let feeds = feeds_at(width, self.construction, place);
-            let passed = moves::pass(board, width, token, place, feeds);
-            return moved_on(self, passed);
+        let depth = network::depth_of(self.width, self.construction);
+        let moved = if place.level < depth {
+            let feeds = network::place_of(self.width, self.construction, place.level, place.wire);
+            moves::pass(self.board, self.width, token, feeds as u8)
+        } else {
+            moves::deal(self.board, self.width, token, place.wire)
+        };
+        After {
+            state: Run {
+                board: moved.board,
+                ..self
+            },
+            answer: Ok(moved.turn),
         }
-        let dealt = moves::deal(board, width, token, place.wire);
-        moved_on(self, dealt)
     }
 }

@@ -1,4 +1,2 @@
-mod Reports
-mod Serving
+mod Answered
 mod Loop
-mod Whole

@@ -1,2 +1,4 @@
+pub mod Phases
+pub mod Reports
 pub mod Serving
 pub mod Pass

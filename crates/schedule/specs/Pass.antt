@@ -1,29 +1,25 @@
--- What one pass over a schedule asks, and what it leaves. Reports are gathered while the schedule is judged, in a buffer that has room
--- for those of any schedule. Definitions only. Assumes nothing.
-use Rattle.std.specs.Prelude.{ℕ, ◌≤◌, ◌≡◌, List, length}
-use Rattle.records.specs.declared.Read.{Read}
-use Rattle.records.specs.declared.Read.TheVariants.{Got, Refused as Unread}
-use Rattle.order.specs.Order.{over}
-use Rattle.outcome.specs.declared.Outcome.{Outcome}
-use Rattle.outcome.specs.declared.Outcome.TheVariants.{Accepted, Refused}
+-- What one pass over a schedule leaves: its outcome, and where it is accepted its reports. Definitions only. Assumes nothing.
+use Rattle.std.specs.Prelude.{ℕ, ◌≤◌, ◌≡◌, List, [], length, Result, OnOk, IfOk}
+use Rattle.order.specs.declared.Refusal.{Refusal}
+use Rattle.outcome.specs.declared.Accepted.{Accepted}
+use Rattle.outcome.specs.declared.Stopped.{Stopped}
+use Rattle.outcome.specs.Course.{at_start}
+use Rattle.outcome.specs.Outcome.{outcome_by}
 use Rattle.outcome.specs.Schedule.{tell}
+use Rattle.schedule.specs.declared.Stage.{Stage}
+use Rattle.schedule.specs.Serving.{course_in}
 
--- the outcome where record n at an offset is not read; it is never asked of one that is
-unfoldable pub unread_at : Read → ℕ → ℕ → Outcome
-unread_at (Got r len) n at = Refused 0 n at 0
-unread_at (Unread k present) n at = Refused k n at present
+-- a refusal of a record that is not cut, by its number from 0
+abbrev pub stopped : Refusal → ℕ → ℕ → Stopped
+stopped e n at = record { refusal = e; «record» = n; offset = at; present = 0 }
 
--- the reports of a schedule are never longer than it
-pub record Passable (s out : List ℕ) : Type 0 where
+-- a pass begins before the open, with no report
+pub record Passable (s : List ℕ) (g : Stage) : Type 0 where
   pub short : length s ≤ 65536
-  pub room : length s ≤ length out
+  pub start : course_in g ≡ at_start
+  pub none : g.reports ≡ []
 
--- the reports of an accepted schedule, b bytes, are in front of the buffer out'
-pub record Gathered (s out : List ℕ) (b : ℕ) (out' : List ℕ) : Type 0 where
-  pub bytes : length (tell s).reports ≡ b
-  pub output : out' ≡ over (tell s).reports out
-
--- the outcome r of a pass, and the buffer out' after it
-pub record PassIs (s out : List ℕ) (r : Outcome) (out' : List ℕ) : Type 0 where
-  pub outcome : r ≡ (tell s).outcome
-  pub gathered : (w c e b : ℕ) → r ≡ Accepted w c e b → Gathered s out b out'
+pub record PassIs (s : List ℕ) (r : Result Accepted Stopped) (done : List ℕ) : Type 0 where
+  pub outcome : outcome_by r ≡ (tell s).outcome
+  pub reports : OnOk r (done ≡ (tell s).reports)
+  pub bytes : IfOk r (λ a. a.bytes ≡ length done)

@@ -1,407 +1,313 @@
-// Running a schedule over lent bytes, in one pass: its records are carried out in place, over arrays that stay where they are, and its
-// reports are gathered in a buffer that has room for those of any schedule. Where the schedule is accepted and the lent output has
-// room, they are copied to it.
+// Running a schedule over lent bytes, in one pass: its records are carried out in place, on a run that is wired up, and its reports are
+// gathered in a buffer that has room for those of any schedule. Where the schedule is accepted and the lent output has room, they are
+// handed over.
 #![tactic(auto)]
 
-ghost use Rattle.std.specs.Prelude.{◌≡◌, ◌++◌, ◌≤◌, length, take, drop};
-ghost use Rattle.moves.specs.Answer.{values_of};
-ghost use Rattle.in_place.specs.Seats.{seats};
-ghost use Rattle.in_place.specs.Held.{Lent, lent, run_in, Framed, Held};
-ghost use Rattle.records.specs.Writing.{bytes_of};
-ghost use Rattle.outcome.specs.declared.Outcome.TheVariants.{Accepted, Refused};
-ghost use Rattle.outcome.specs.Step.{report_of, close_no, phase_no, place_no, step_of};
+ghost use Rattle.std.specs.Prelude.{◌≡◌, ◌++◌, ◌+◌, ◌≤◌, [], length};
+ghost use Rattle.order.specs.Order.{refused_by, over};
+ghost use Rattle.moves.specs.Answer.{turned};
+ghost use Rattle.records.specs.Writing.{bytes_of, size_of};
+ghost use Rattle.records.specs.Reading.{read_by};
+ghost use Rattle.outcome.specs.Course.{at_start};
+ghost use Rattle.outcome.specs.Step.{report_of, close_no, phase_no, step_of};
 ghost use Rattle.outcome.specs.Schedule.{record_at};
 ghost use Rattle.outcome.specs.Whole.{Ran};
-ghost use Rattle.schedule.specs.Serving.{course_in, RoomFor, Noted, Serves, Servable, ServesOpen, ServesEnter, TurnServable, ServesTurn, ServesClose};
-ghost use Rattle.schedule.specs.Pass.{unread_at, Passable, PassIs};
+ghost use Rattle.schedule.specs.Phases.{phase_of};
+ghost use Rattle.schedule.specs.Pass.{stopped, Passable, PassIs};
 
-use board::{CELLS, EXITS, TOKENS};
-use in_place::{Frame, TABLE};
+use in_place::WiredRun;
 use moves::Turn;
-use outcome::{MAX_BYTES, Outcome};
-use records::{Read, Record};
+use order::Refusal;
+use outcome::{Accepted, MAX_BYTES, Stopped};
+use records::{Got, Record, Unread};
+use std::marker::Model;
 
-// Where a schedule stands: phase 0 before the open, 1 after it, 2 after the close; what of its run is no array; the bytes of its
-// reports so far.
-#[derive(Clone, Copy)]
-struct Stage {
-    phase: u8,
-    frame: Frame,
-    filled: usize,
-}
+// Room for the reports of any schedule: they are never longer than it.
+const ROOM: usize = MAX_BYTES;
 
-// What a record leaves: its refusal number, 0 where it was carried out, and where the schedule stands then.
-#[derive(Clone, Copy)]
-struct Served {
-    number: u8,
-    stage: Stage,
+// Before the open, between it and the close, and after the close.
+#[derive(Clone, Copy, PartialEq, Eq)]
+enum Phase {
+    Before,
+    Running,
+    Closed,
 }
 
 // ---- reports
-// Puts a report behind those that fill the buffer so far; gives how far they go then.
-fn put_report(out: &mut [u8], filled: usize, report: Record) -> usize
-    requires { RoomFor (bytes_of report) filled out.old }
-    ensures { Noted (bytes_of report) filled out.old result out.new }
-{
-    let next = filled + records::size_of(report);
-    records::put_record(out, filled, report);
-    next
+
+// The reports so far fill the first bytes of the buffer; a contract sees them.
+#[derive(Drop)]
+struct Reports {
+    buffer: [u8; ROOM],
+    filled: usize,
 }
 
-// The same of the report of a turn's answer, where a number was dealt.
-fn note(out: &mut [u8], filled: usize, token: u16, answer: Turn) -> usize
-    requires { RoomFor (report_of token answer) filled out.old }
-    ensures { Noted (report_of token answer) filled out.old result out.new }
-{
-    match answer {
-        Turn::Passed { .. } => filled,
-        Turn::Dealt { exit, number } => {
-            let report = Record::Number {
+impl Model for Reports {
+    ghost use Rattle.std.specs.Prelude.{List, ℕ, ◌≤◌};
+
+    ghost Value = { List ℕ };
+
+    ghost use Rattle.schedule.specs.Reports.{reports_in};
+
+    ghost view = { reports_in };
+
+    ghost invariant = { λ r. r.filled ≤ 65536 };
+}
+
+impl Reports {
+    fn none() -> Reports
+        ensures { result ≡ [] }
+    {
+        Reports {
+            buffer: [0; ROOM],
+            filled: 0,
+        }
+    }
+
+    fn len(&self) -> usize
+        ensures { result ≡ length self.now }
+    {
+        self.filled
+    }
+
+    // Puts a report behind them.
+    fn put(&mut self, report: Record)
+        requires { length self.old + size_of report ≤ 65536 }
+        ensures { self.new ≡ self.old ++ bytes_of report }
+    {
+        records::put_record(&mut self.buffer, self.filled, report);
+        self.filled += records::size_of(report);
+    }
+
+    // The same of the report of a turn, where a number was dealt.
+    #[tactic(auto, using(records::proofs::Writing::length_bytes_of), unfolding(outcome::specs::Step::report_of))]
+    fn note(&mut self, token: u16, turn: Turn)
+        requires { length self.old + length (report_of token (turned turn)) ≤ 65536 }
+        ensures { self.new ≡ self.old ++ report_of token (turned turn) }
+    {
+        if let Turn::Dealt { exit, number } = turn {
+            self.put(Record::Number {
                 token,
                 wire: exit,
                 number,
-            };
-            put_report(out, filled, report)
+            });
         }
-        Turn::Refused(_) => filled,
     }
-}
 
-// ---- a record of each kind, in its phase
-fn serve_open(filled: usize, table: &mut [u8; TABLE], width: u16, construction: u16) -> Served
-    requires { length table.old ≡ 2304 }
-    ensures { ServesOpen width construction filled result table.new }
-{
-    let opened = in_place::open(table, width, construction);
-    let frame = opened.frame;
-    let stage = Stage {
-        phase: 1,
-        frame,
-        filled,
-    };
-    Served {
-        number: opened.refusal,
-        stage,
-    }
-}
-
-fn serve_enter(
-    stage: Stage,
-    inside: &mut [bool; TOKENS],
-    level: &mut [u16; TOKENS],
-    wire: &mut [u16; TOKENS],
-    token: u16,
-    on: u16,
-) -> Served
-    requires { (stage.frame.entered ≤ 1000000) × Framed stage.frame (seats inside.old level.old wire.old) }
-    ensures { ServesEnter stage (seats inside.old level.old wire.old) token on result (seats inside.new level.new wire.new) }
-{
-    let frame = stage.frame;
-    let entered = in_place::enter(frame, inside, level, wire, token, on);
-    let after = entered.frame;
-    let next = Stage {
-        phase: 1,
-        frame: after,
-        filled: stage.filled,
-    };
-    Served {
-        number: entered.refusal,
-        stage: next,
-    }
-}
-
-// The number of a turn's answer, 0 where the turn was carried out.
-fn refusal_of(answer: Turn) -> u8
-    ensures { result ≡ (values_of answer).refusal }
-{
-    match answer {
-        Turn::Passed { .. } => 0,
-        Turn::Dealt { exit: _, number: _ } => 0,
-        Turn::Refused(number) => number,
-    }
-}
-
-fn serve_turn(
-    stage: Stage,
-    table: &[u8; TABLE],
-    toggles: &mut [bool; CELLS],
-    counts: &mut [u32; EXITS],
-    inside: &mut [bool; TOKENS],
-    level: &mut [u16; TOKENS],
-    wire: &mut [u16; TOKENS],
-    out: &mut [u8],
-    token: u16,
-) -> Served
-    requires { TurnServable stage (lent table.now toggles.old counts.old (seats inside.old level.old wire.old)) token out.old }
-    ensures { ServesTurn stage (lent table.now toggles.old counts.old (seats inside.old level.old wire.old)) token out.old result (lent table.now toggles.new counts.new (seats inside.new level.new wire.new)) out.new }
-{
-    let frame = stage.frame;
-    let turned = in_place::turn(frame, table, toggles, counts, inside, level, wire, token);
-    let answer = turned.answer;
-    let number = refusal_of(answer);
-    let filled = note(out, stage.filled, token, answer);
-    let after = turned.frame;
-    let next = Stage {
-        phase: 1,
-        frame: after,
-        filled,
-    };
-    Served {
-        number,
-        stage: next,
-    }
-}
-
-// Why a close may not be: 15 while a token is inside or where the count is not the entries, or 0. The frame counts the tokens inside, so
-// no array is asked.
-fn close_refusal(frame: Frame, entered: u32) -> u8
-    ensures { (a : Lent) → Held frame a → result ≡ close_no (run_in frame a) entered }
-{
-    if frame.within != 0 {
-        return 15;
-    }
-    if frame.entered != entered {
-        return 15;
-    }
-    0
-}
-
-fn serve_close(stage: Stage, entered: u32) -> Served
-    ensures { ServesClose stage entered result }
-{
-    let frame = stage.frame;
-    let number = close_refusal(frame, entered);
-    let next = Stage {
-        phase: 2,
-        frame,
-        filled: stage.filled,
-    };
-    Served {
-        number,
-        stage: next,
-    }
-}
-
-// ---- any record
-// 14 out of the phase that a record belongs to, or 0.
-fn out_of_phase(phase: u8, own: u8) -> u8
-    ensures { result ≡ phase_no own phase }
-{
-    if phase == own { 0 } else { 14 }
-}
-
-// Why a record may not stand in a phase: 13 for a report, 14 for any other out of its phase, or 0.
-fn misplaced(phase: u8, item: Record) -> u8
-    ensures { result ≡ place_no phase item }
-{
-    match item {
-        Record::Open {
-            width: _,
-            construction: _,
-        } => out_of_phase(phase, 0),
-        Record::Enter { token: _, wire: _ } => out_of_phase(phase, 1),
-        Record::Turn { token: _ } => out_of_phase(phase, 1),
-        Record::Close { entered: _ } => out_of_phase(phase, 1),
-        Record::Number {
-            token: _,
-            wire: _,
-            number: _,
-        } => 13,
-    }
-}
-
-fn serve(
-    stage: Stage,
-    item: Record,
-    table: &mut [u8; TABLE],
-    toggles: &mut [bool; CELLS],
-    counts: &mut [u32; EXITS],
-    inside: &mut [bool; TOKENS],
-    level: &mut [u16; TOKENS],
-    wire: &mut [u16; TOKENS],
-    out: &mut [u8],
-) -> Served
-    requires { Servable stage (lent table.old toggles.old counts.old (seats inside.old level.old wire.old)) item out.old }
-    ensures { Serves (step_of (course_in stage (lent table.old toggles.old counts.old (seats inside.old level.old wire.old))) item) stage.filled out.old result (lent table.new toggles.new counts.new (seats inside.new level.new wire.new)) out.new }
-{
-    let number = misplaced(stage.phase, item);
-    if number != 0 {
-        return Served { number, stage };
-    }
-    match item {
-        Record::Open {
-            width,
-            construction,
-        } => serve_open(stage.filled, table, width, construction),
-        Record::Enter { token, wire: on } => serve_enter(stage, inside, level, wire, token, on),
-        Record::Turn { token } => serve_turn(
-            stage, table, toggles, counts, inside, level, wire, out, token,
-        ),
-        Record::Close { entered } => serve_close(stage, entered),
-        // never in its place
-        Record::Number {
-            token: _,
-            wire: _,
-            number: _,
-        } => Served { number: 13, stage },
+    // Copies them to a lent output that has room.
+    fn hand_over(&self, out: &mut [u8])
+        requires { length self.now ≤ length out.old }
+        ensures { out.new ≡ over self.now out.old }
+    {
+        out[..self.filled].copy_from_slice(&self.buffer[..self.filled]);
     }
 }
 
 // ---- outcomes
-// A refusal of a record that is not cut, or of no record.
-fn refused(number: u8, record: usize, offset: usize) -> Outcome
-    ensures { result ≡ Refused number «record» offset 0 }
+
+// A refusal of a record that is not cut, by its number from 0, or of no record.
+fn stopped(refusal: Refusal, number: usize, offset: usize) -> Stopped
+    ensures { result ≡ stopped refusal number offset }
 {
-    Outcome::Refused {
-        number,
-        record,
+    Stopped {
+        refusal,
+        record: number,
         offset,
         present: 0,
     }
 }
 
-fn accepted(stage: Stage) -> Outcome
-    ensures { result ≡ Accepted stage.frame.width stage.frame.construction stage.frame.entered stage.filled }
-{
-    let frame = stage.frame;
-    Outcome::Accepted {
-        width: frame.width,
-        construction: frame.construction,
-        entries: frame.entered,
-        bytes: stage.filled,
-    }
-}
+// ---- reading
 
-// ---- one pass
 // The record at an offset; behind the last byte there is none: 14.
-fn read_any(bytes: &[u8], at: usize) -> Read
-    ensures { result ≡ record_at bytes.now at }
+#[tactic(auto, using(outcome::proofs::Told::record_none, outcome::proofs::Told::record_part))]
+fn read_any(bytes: &[u8], at: usize) -> Result<Got, Unread>
+    ensures { read_by result ≡ record_at bytes.now at }
 {
     if bytes.len() <= at {
-        return Read::Refused {
-            number: 14,
+        return Err(Unread {
+            refusal: Refusal::OutOfPlace,
             present: 0,
-        };
+        });
     }
     records::read_in_schedule(&bytes[at..])
 }
 
 // The same; one that is whole and has the head of a turn, as nearly all have, is read where it stands.
-fn read_at(bytes: &[u8], at: usize) -> Read
+fn read_at(bytes: &[u8], at: usize) -> Result<Got, Unread>
     requires { at ≤ length bytes.now }
-    ensures { result ≡ record_at bytes.now at }
+    ensures { read_by result ≡ record_at bytes.now at }
 {
-    if bytes.len() - at < 6 {
-        return read_any(bytes, at);
-    }
-    if records::field_of_two(bytes, at) != 6 {
-        return read_any(bytes, at);
-    }
-    if records::field_of_two(bytes, at + 2) != 3 {
+    if bytes.len() - at < 6
+        || records::field_of_two(bytes, at) != 6
+        || records::field_of_two(bytes, at + 2) != 3
+    {
         return read_any(bytes, at);
     }
     let token = records::field_of_two(bytes, at + 4);
-    let item = Record::Turn { token };
-    Read::Got(item, 6)
+    Ok(Got {
+        record: Record::Turn { token },
+        length: 6,
+    })
 }
 
-// The outcome where a record is not read. It is asked of such a read alone.
-fn unread(read: Read, record: usize, offset: usize) -> Outcome
-    ensures { result ≡ unread_at read «record» offset }
+// ---- records, each in its phase
+
+// Where a schedule stands: its phase, its run and its reports.
+#[derive(Drop)]
+struct Stage {
+    phase: Phase,
+    wired: WiredRun,
+    reports: Reports,
+}
+
+// May a schedule close? Refused by 15 while a token is inside, and where the count is not the entries.
+#[tactic(auto, unfolding(outcome::specs::Step::close_no, order::specs::Order::first_of, board::specs::Sound::inside_sum))]
+fn check_close(wired: &WiredRun, entered: u32) -> Result<(), Refusal>
+    ensures { refused_by result ≡ close_no wired.now.run entered }
 {
-    match read {
-        Read::Got(_, _) => refused(0, record, offset),
-        Read::Refused { number, present } => Outcome::Refused {
-            number,
-            record,
-            offset,
-            present,
-        },
+    if wired.within != 0 {
+        return Err(Refusal::BadClose);
     }
+    if wired.run.board.entered != entered {
+        return Err(Refusal::BadClose);
+    }
+    Ok(())
 }
 
-// One pass over a schedule, which gathers its reports.
-fn pass(bytes: &[u8], out: &mut [u8]) -> Outcome
-    requires { Passable bytes.now out.old }
-    ensures { PassIs bytes.now out.old result out.new }
-{
-    let frame = in_place::no_frame();
-    let mut stage = Stage {
-        phase: 0,
-        frame,
-        filled: 0,
-    };
-    let mut table = [0u8; TABLE];
-    let mut toggles = [false; CELLS];
-    let mut counts = [0u32; EXITS];
-    let mut inside = [false; TOKENS];
-    let mut level = [0u16; TOKENS];
-    let mut wire = [0u16; TOKENS];
-    let mut at: usize = 0;
-    let mut record: usize = 0;
-    while stage.phase != 2 {
-        let read = read_at(bytes, at);
-        let Read::Got(item, len) = read else {
-            return unread(read, record, at);
-        };
-        let served = serve(
-            stage,
-            item,
-            &mut table,
-            &mut toggles,
-            &mut counts,
-            &mut inside,
-            &mut level,
-            &mut wire,
-            out,
-        );
-        if served.number != 0 {
-            return refused(served.number, record, at);
+impl Stage {
+    ghost use Rattle.schedule.specs.Serving.{course_in, Servable, Serves};
+
+    #[tactic(auto, unfolding(outcome::specs::Course::at_start))]
+    fn at_start() -> Stage
+        ensures { (course_in result ≡ at_start) × (result.reports ≡ []) }
+    {
+        Stage {
+            phase: Phase::Before,
+            wired: WiredRun::unopened(),
+            reports: Reports::none(),
         }
-        let next = served.stage;
-        stage = next;
-        at = at + len;
-        record = record + 1;
     }
-    if at < bytes.len() {
-        return refused(14, record, at);
-    }
-    accepted(stage)
-}
 
-// ---- the whole call
-fn copy(out: &mut [u8], from: &[u8], n: usize)
-    requires { (n ≤ length from.now) × (n ≤ length out.old) }
-    ensures { out.new ≡ take n from.now ++ drop n out.old }
-{
-    let mut i = 0;
-    while i < n {
-        out[i] = from[i];
-        i += 1;
+    // A record out of the phase that it belongs to is refused by 14.
+    #[tactic(auto, unfolding(outcome::specs::Step::phase_no, order::specs::Order::first_of))]
+    fn check_phase(&self, own: Phase) -> Result<(), Refusal>
+        ensures { refused_by result ≡ phase_no (phase_of own) (phase_of self.now.phase) }
+    {
+        if self.phase == own {
+            return Ok(());
+        }
+        Err(Refusal::OutOfPlace)
+    }
+
+    #[tactic(auto, using(order::proofs::Numbers::number_some), unfolding(outcome::specs::Step::step_of, outcome::specs::Step::served_of, outcome::specs::Step::place_no))]
+    fn open(&mut self, width: u16, construction: u16) -> Result<(), Refusal>
+        ensures { Serves self.old (Record.Open width construction) result self.new }
+    {
+        self.check_phase(Phase::Before)?;
+        self.wired.open(width, construction)?;
+        self.phase = Phase::Running;
+        Ok(())
+    }
+
+    #[tactic(auto, using(order::proofs::Numbers::number_some, outcome::proofs::Ready::its_phase), unfolding(outcome::specs::Step::step_of, outcome::specs::Step::served_of, outcome::specs::Step::place_no))]
+    fn enter(&mut self, token: u16, wire: u16) -> Result<(), Refusal>
+        requires { Servable self.old (Record.Enter token wire) }
+        ensures { Serves self.old (Record.Enter token wire) result self.new }
+    {
+        self.check_phase(Phase::Running)?;
+        self.wired.enter(token, wire)?;
+        Ok(())
+    }
+
+    #[tactic(auto, using(order::proofs::Numbers::number_some, outcome::proofs::Ready::its_phase), unfolding(outcome::specs::Step::step_of, outcome::specs::Step::served_of, outcome::specs::Step::place_no))]
+    fn turn(&mut self, token: u16) -> Result<(), Refusal>
+        requires { Servable self.old (Record.Turn token) }
+        ensures { Serves self.old (Record.Turn token) result self.new }
+    {
+        self.check_phase(Phase::Running)?;
+        let turn = self.wired.turn(token)?;
+        self.reports.note(token, turn);
+        Ok(())
+    }
+
+    #[tactic(auto, using(order::proofs::Numbers::number_some), unfolding(outcome::specs::Step::step_of, outcome::specs::Step::served_of, outcome::specs::Step::place_no))]
+    fn close(&mut self, entered: u32) -> Result<(), Refusal>
+        ensures { Serves self.old (Record.Close entered) result self.new }
+    {
+        self.check_phase(Phase::Running)?;
+        check_close(&self.wired, entered)?;
+        self.phase = Phase::Closed;
+        Ok(())
+    }
+
+    #[tactic(auto, using(order::proofs::Numbers::number_some), unfolding(outcome::specs::Step::step_of, outcome::specs::Step::served_of, outcome::specs::Step::place_no))]
+    fn serve(&mut self, item: Record) -> Result<(), Refusal>
+        requires { Servable self.old item }
+        ensures { Serves self.old item result self.new }
+    {
+        match item {
+            Record::Open {
+                width,
+                construction,
+            } => self.open(width, construction),
+            Record::Enter { token, wire } => self.enter(token, wire),
+            Record::Turn { token } => self.turn(token),
+            Record::Close { entered } => self.close(entered),
+            Record::Number { .. } => Err(Refusal::UnknownKind),
+        }
+    }
+
+    // Carries out the records up to the close.
+    fn pass(&mut self, bytes: &[u8]) -> Result<Accepted, Stopped>
+        requires { Passable bytes.now self.old }
+        ensures { PassIs bytes.now result self.new.reports }
+    {
+        let mut at: usize = 0;
+        let mut record: usize = 0;
+        while self.phase != Phase::Closed {
+            let read = read_at(bytes, at);
+            let Ok(got) = read else {
+                let unread = read.unwrap_err();
+                return Err(Stopped {
+                    refusal: unread.refusal,
+                    record,
+                    offset: at,
+                    present: unread.present,
+                });
+            };
+            if let Err(refusal) = self.serve(got.record) {
+                return Err(stopped(refusal, record, at));
+            }
+            at += got.length;
+            record += 1;
+        }
+        if at < bytes.len() {
+            return Err(stopped(Refusal::OutOfPlace, record, at));
+        }
+        let run = &self.wired.run;
+        Ok(Accepted {
+            width: run.width,
+            construction: run.construction,
+            entries: run.board.entered,
+            bytes: self.reports.len(),
+        })
     }
 }
 
 // Runs a schedule: judges it whole, and then hands over its reports.
-pub fn run(bytes: &[u8], out: &mut [u8]) -> Outcome
+#[tactic(auto, unfolding(outcome::specs::Whole::run_of, outcome::specs::Whole::settle, outcome::specs::Whole::output_of, outcome::specs::Whole::after_run))]
+pub fn run(bytes: &[u8], out: &mut [u8]) -> Result<Accepted, Stopped>
     ensures { Ran bytes.now out.old result out.new }
 {
     if MAX_BYTES < bytes.len() {
-        return refused(16, 0, 0);
+        return Err(stopped(Refusal::ScheduleLong, 0, 0));
     }
-    let mut reports = [0u8; MAX_BYTES];
-    let judged = pass(bytes, &mut reports);
-    let Outcome::Accepted {
-        width: _,
-        construction: _,
-        entries: _,
-        bytes: filled,
-    } = judged
-    else {
-        return judged;
-    };
-    if out.len() < filled {
-        return refused(17, 0, 0);
+    let mut stage = Stage::at_start();
+    let accepted = stage.pass(bytes)?;
+    if out.len() < accepted.bytes {
+        return Err(stopped(Refusal::NoRoom, 0, 0));
     }
-    copy(out, &reports, filled);
-    judged
+    stage.reports.hand_over(out);
+    Ok(accepted)
 }

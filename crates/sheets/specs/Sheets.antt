@@ -1,7 +1,7 @@
 -- The sheet and the view of one row (01, "Wiring" and the orders of refusal). Definitions only. Assumes nothing.
-use Rattle.std.specs.Prelude.{ℕ, ◌+◌, ◌*◌, ◌≡◌, not, cond, List, [], ◌∷◌, leb, ltb, eqb, length, take, drop}
-use Rattle.order.specs.Order.{◌⟶◌, first_of, filled_of, over}
-use Rattle.order.specs.declared.Filled.{Filled}
+use Rattle.std.specs.Prelude.{ℕ, Result, ◌+◌, ◌*◌, ◌≡◌, not, cond, List, [], ◌∷◌, leb, ltb, eqb, length, take, drop}
+use Rattle.order.specs.Order.{◌⟶◌, first_of, filled_by, filled_of, over}
+use Rattle.order.specs.declared.Refusal.{Refusal}
 use Rattle.network.specs.Widths.{width_ok, construction_ok, depth_of}
 use Rattle.network.specs.Rows.{sheet_of}
 
@@ -15,8 +15,8 @@ sheet_no w c room =
     first_of ((not (width_ok w) ⟶ 1) ∷ (not (construction_ok c) ⟶ 2) ∷ (ltb room (sheet_length w c) ⟶ 3) ∷ [])
 
 -- what is answered, and the lent bytes after it: further bytes stay, and a refusal changes nothing
-pub record SheetIs (w c : ℕ) (before after : List ℕ) (r : Filled) : Type 0 where
-  pub answer : r ≡ filled_of (sheet_no w c (length before)) (sheet_length w c)
+pub record SheetIs (w c : ℕ) (before after : List ℕ) (r : Result ℕ Refusal) : Type 0 where
+  pub answer : filled_by r ≡ filled_of (sheet_no w c (length before)) (sheet_length w c)
   pub bytes : after ≡ cond (eqb (sheet_no w c (length before)) 0) (over (sheet_of w c) before) before
 
 -- ---- the view: 1; 2; 10 layer not below depth; 3 of the chosen sheet only, which has n bytes

@@ -3,22 +3,20 @@
 #![tactic(auto)]
 
 ghost use Rattle.std.specs.Prelude.{◌≡◌, ◌*◌, ◌≤◌, ◌++◌, length, take, drop};
+ghost use Rattle.order.specs.Order.{refused_by};
 ghost use Rattle.network.specs.Widths.{open_no, depth_of};
 ghost use Rattle.network.specs.Rows.{place_of, rows};
 ghost use Rattle.sheets.specs.Sheets.{sheet_length, sheet_no, SheetIs, view_no, chosen, ViewIs};
 
-use order::Filled;
+use order::Refusal;
 
 // A row, from an array, into a part of a sheet.
 pub fn put_row(out: &mut [u8], row: [u8; network::ROW])
     requires { length out.old ≤ 64 }
     ensures { out.new ≡ take (length out.old) row }
 {
-    let mut i = 0;
-    while i < out.len() {
-        out[i] = row[i];
-        i += 1;
-    }
+    let wires = out.len();
+    out.copy_from_slice(&row[..wires]);
 }
 
 // The rows of all layers.
@@ -27,17 +25,15 @@ fn put_rows(width: u16, construction: u16, depth: u16, out: &mut [u8])
     ensures { out.new ≡ rows (place_of width construction) width depth ++ drop (depth * width) out.old }
 {
     let w = width as usize;
-    let mut layer = 0u16;
-    while layer < depth {
+    for layer in 0..depth {
         let row = network::row(width, construction, layer);
-        let at = (layer as usize) * w;
-        let end = at + w;
-        put_row(&mut out[at..end], row);
-        layer += 1;
+        let at = layer as usize * w;
+        put_row(&mut out[at..at + w], row);
     }
 }
 
 // The bytes of a sheet; 0 where the width is not allowed.
+#[tactic(auto, using(network::proofs::Widths::depth_of_small), unfolding(crate::specs::Sheets::sheet_length))]
 fn sheet_length(width: u16, construction: u16) -> usize
     ensures { result ≡ sheet_length width construction }
 {
@@ -45,79 +41,78 @@ fn sheet_length(width: u16, construction: u16) -> usize
     (depth as usize) * (width as usize)
 }
 
-fn sheet_refusal(width: u16, construction: u16, room: usize) -> u8
-    ensures { result ≡ sheet_no width construction room }
+#[tactic(auto, using(order::proofs::Numbers::number_some), unfolding(crate::specs::Sheets::sheet_no, network::specs::Widths::open_no, order::specs::Order::first_of))]
+fn check_sheet(width: u16, construction: u16, room: usize) -> Result<(), Refusal>
+    ensures { refused_by result ≡ sheet_no width construction room }
 {
-    let refusal = network::open_refusal(width, construction);
-    if refusal != 0 {
-        return refusal;
-    }
+    network::check_open(width, construction)?;
     if room < sheet_length(width, construction) {
-        return 3;
+        return Err(Refusal::SheetShort);
     }
-    0
+    Ok(())
 }
 
 // The sheet: the rows in layer order, in front of the lent bytes.
-pub fn sheet(width: u16, construction: u16, out: &mut [u8]) -> Filled
+pub fn sheet(width: u16, construction: u16, out: &mut [u8]) -> Result<usize, Refusal>
     ensures { SheetIs width construction out.old out.new result }
 {
-    let refusal = sheet_refusal(width, construction, out.len());
-    if refusal != 0 {
-        return Filled { refusal, filled: 0 };
-    }
+    check_sheet(width, construction, out.len())?;
     let depth = network::depth_of(width, construction);
     put_rows(width, construction, depth, out);
-    Filled {
-        refusal,
-        filled: sheet_length(width, construction),
-    }
+    Ok(sheet_length(width, construction))
 }
 
-// The refusal number of a view of a sheet of that many bytes.
-fn view_check(width: u16, construction: u16, layer: u16, room: usize) -> u8
-    ensures { result ≡ view_no width construction layer room }
+// May the row of a layer be viewed in a sheet of that many bytes?
+#[tactic(auto, using(order::proofs::Numbers::number_some), unfolding(crate::specs::Sheets::view_no, network::specs::Widths::open_no, order::specs::Order::first_of))]
+fn check_view_in(width: u16, construction: u16, layer: u16, room: usize) -> Result<(), Refusal>
+    ensures { refused_by result ≡ view_no width construction layer room }
 {
-    let refusal = network::open_refusal(width, construction);
-    if refusal != 0 {
-        return refusal;
-    }
+    network::check_open(width, construction)?;
     if network::depth_of(width, construction) <= layer {
-        return 10;
+        return Err(Refusal::NoLayer);
     }
     if room < sheet_length(width, construction) {
-        return 3;
+        return Err(Refusal::SheetShort);
     }
-    0
+    Ok(())
 }
 
-// The refusal number of a view.
-pub fn view_refusal(
+// The sheet that the construction says.
+fn chosen<'a>(construction: u16, bitonic: &'a [u8], periodic: &'a [u8]) -> &'a [u8]
+    ensures bytes { result.now ≡ chosen construction bitonic.now periodic.now }
+    ensures there { result.ref_ptr ≡ chosen construction bitonic.entry.ref_ptr periodic.entry.ref_ptr }
+{
+    if construction == network::BITONIC {
+        bitonic
+    } else {
+        periodic
+    }
+}
+
+// Why the view of a layer's row is refused.
+pub fn check_view(
     width: u16,
     construction: u16,
     layer: u16,
     bitonic: &[u8],
     periodic: &[u8],
-) -> u8
-    ensures { result ≡ view_no width construction layer (length (chosen construction bitonic.now periodic.now)) }
+) -> Result<(), Refusal>
+    ensures { refused_by result ≡ view_no width construction layer (length (chosen construction bitonic.now periodic.now)) }
 {
-    if construction == 1 {
-        return view_check(width, construction, layer, bitonic.len());
-    }
-    view_check(width, construction, layer, periodic.len())
+    let sheet = chosen(construction, bitonic, periodic);
+    check_view_in(width, construction, layer, sheet.len())
 }
 
 // The row in one sheet, or nothing.
 fn row_in<'a>(width: u16, construction: u16, layer: u16, sheet: &'a [u8]) -> &'a [u8]
     ensures { ViewIs width construction layer sheet.now sheet.entry.ref_ptr result.now result.ref_ptr }
 {
-    if view_check(width, construction, layer, sheet.len()) != 0 {
+    if check_view_in(width, construction, layer, sheet.len()).is_err() {
         return &sheet[0..0];
     }
     let w = width as usize;
-    let at = (layer as usize) * w;
-    let end = at + w;
-    &sheet[at..end]
+    let at = layer as usize * w;
+    &sheet[at..at + w]
 }
 
 // The row of a layer in the sheet that the construction says; empty where that is refused.
@@ -130,8 +125,6 @@ pub fn view<'a>(
 ) -> &'a [u8]
     ensures { ViewIs width construction layer (chosen construction bitonic.now periodic.now) (chosen construction bitonic.entry.ref_ptr periodic.entry.ref_ptr) result.now result.ref_ptr }
 {
-    if construction == 1 {
-        return row_in(width, construction, layer, bitonic);
-    }
-    row_in(width, construction, layer, periodic)
+    let sheet = chosen(construction, bitonic, periodic);
+    row_in(width, construction, layer, sheet)
 }

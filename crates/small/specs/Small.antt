@@ -1,17 +1,51 @@
 -- The small cabinet (02, P6): a run with a dial at each exit. Opening, enter, turn and poll. It is sound where its run is: dials are
 -- not judged. Definitions only. Assumes nothing.
-use Rattle.std.specs.Prelude.{ℕ, not, cond, List, [], ◌∷◌, eqb, leb, get_or, set, replicate}
-use Rattle.order.specs.Order.{◌⟶◌, first_of}
-use Rattle.moves.specs.Answer.{Values, values_of}
+use Rattle.std.specs.Prelude.{ℕ, not, cond, List, [], ◌∷◌, eqb, leb, get_or, set, replicate, Result, Ok, Err, ⊤}
+use Rattle.order.specs.declared.After.{After}
+use Rattle.order.specs.declared.Refusal.{Refusal}
+use Rattle.order.specs.Order.{◌⟶◌, first_of, refused_by}
+use Rattle.moves.specs.declared.Turn.{Turn}
+use Rattle.moves.specs.Answer.{Answer, Values, answered, values_of}
 use Rattle.run.specs.declared.Run.{Run}
 use Rattle.run.specs.Run.{open_of, sound, enter_of, turn_of}
 use Rattle.dials.specs.declared.Dial.{Dial}
 use Rattle.dials.specs.Dials.{open_dial, advance_of, yield_of, poll_of}
 use Rattle.small.specs.declared.Cabinet.{Cabinet}
-use Rattle.small.specs.declared.Opened.{Opened}
-use Rattle.small.specs.declared.Entered.{Entered}
-use Rattle.small.specs.declared.Turned.{Turned}
-use Rattle.small.specs.declared.Polled.{Polled}
+
+-- what an opening, entering, a turn and a poll give: the refusal's number, 0 where it was carried out, or the turn's answer, and the
+-- cabinet after it; a poll its yield too, which is 0 where it was refused
+pub record Opened : Type 0 where
+  pub refusal : ℕ
+  pub cabinet : Cabinet
+
+pub record Entered : Type 0 where
+  pub refusal : ℕ
+  pub cabinet : Cabinet
+
+pub record Turned : Type 0 where
+  pub answer : Answer
+  pub cabinet : Cabinet
+
+pub record Polled : Type 0 where
+  pub refusal : ℕ
+  pub yielded : ℕ
+  pub cabinet : Cabinet
+
+abbrev pub opened : After Cabinet ⊤ → Opened
+opened a = record { refusal = refused_by a.answer; cabinet = a.state }
+
+abbrev pub entered : After Cabinet ⊤ → Entered
+entered a = record { refusal = refused_by a.answer; cabinet = a.state }
+
+abbrev pub turned : After Cabinet Turn → Turned
+turned a = record { answer = answered a.answer; cabinet = a.state }
+
+abbrev pub yielded_by : Result ℕ Refusal → ℕ
+yielded_by (Ok n) = n
+yielded_by (Err e) = 0
+
+abbrev pub polled : After Cabinet ℕ → Polled
+polled a = record { refusal = refused_by a.answer; yielded = yielded_by a.answer; cabinet = a.state }
 
 abbrev pub cabinet_of : Run → List Dial → Cabinet
 cabinet_of x ds = record { run = x; dials = ds }

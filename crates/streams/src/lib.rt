@@ -1,7 +1,8 @@
-// Reading into a lent buffer, from any reader, writing one to any writer, and buffers to lend. Nothing is allocated.
+// Reading into a lent buffer, from any reader, writing one to any writer, buffers to lend, and the program that tells a text of its
+// input. Nothing is allocated.
 #![tactic(auto)]
 
-ghost use Rattle.std.specs.Prelude.{◌≡◌, ℕ, ◌+◌, ◌<◌, ◌≤◌, IfOk, OnOk, OnErr, EachIndex, slice_index, length, take, drop};
+ghost use Rattle.std.specs.Prelude.{◌≡◌, ℕ, ◌+◌, ◌<◌, ◌≤◌, IfOk, OnOk, OnErr, All, length, take, drop};
 ghost use Rattle.std.specs.Io.KnownBytes.{Appends, Consumes, IsAtEnd, Keeps};
 
 use std::io;
@@ -29,6 +30,7 @@ pub fn read_full<R: Read>(reader: &mut R, buf: &mut [u8]) -> io::Result<usize>
     ensures err { OnErr result ((n : ℕ) × (n ≤ length buf.new) × Consumes (R.remaining reader.old) (R.remaining reader.new) (take n buf.new)) }
 {
     let mut done = 0;
+    // no `for`: how far a turn comes is the reader's to say
     while done < buf.len() {
         let n = read_behind(reader, buf, done)?;
         if n == 0 {
@@ -45,6 +47,7 @@ pub fn write_whole<W: Write>(writer: &mut W, bytes: &[u8]) -> io::Result<()>
     ensures err { OnErr result ((n : ℕ) × (n ≤ length bytes.now) × Appends (W.contents writer.old) (W.contents writer.new) (take n bytes.now)) }
 {
     let mut done = 0;
+    // no `for`: how far a turn comes is the writer's to say; and the library's `write_all` tells nothing of what an error leaves
     while done < bytes.len() {
         let taken = writer.write(&bytes[done..])?;
         if taken == 0 {
@@ -55,11 +58,27 @@ pub fn write_whole<W: Write>(writer: &mut W, bytes: &[u8]) -> io::Result<()>
     Ok(())
 }
 
-// So many zeros, to be lent as a buffer. A program with a long one asks for it here: of a literal that long a proof would work out
-// each byte.
-pub fn zeros<const N: usize>() -> [u8; N]
+// A buffer to lend, of so many copies of a value. A program with a long one asks for it here: of a literal that long a proof would
+// work out each of them.
+pub fn buffer_of<T: Copy, const N: usize>(value: T) -> [T; N]
     ensures long { length result ≡ N }
-    ensures zero { EachIndex result (λ i. slice_index result i ≡ 0) }
+    ensures each { All (λ x. x ≡ value) result }
 {
-    [0; N]
+    [value; N]
+}
+
+// The program that tells a text of its input: it reads the input, has the text put into `out`, and writes it. It stops reading behind
+// byte 65,537: the longest input that is of use is shorter.
+pub fn tell<F: FnOnce(&[u8], &mut [u8]) -> usize>(
+    rt: &HostRuntime,
+    out: &mut [u8],
+    put: F,
+) -> io::Result<()>
+    requires takes { (bytes lent : _) → length lent.now ≡ length out.old → F.pre put bytes lent }
+    requires within { (bytes lent n left : _) → length lent.now ≡ length out.old → F.post put bytes lent n left → n ≤ length left.now }
+{
+    let mut input: [u8; 65537] = buffer_of(0);
+    let n = read_full(&mut rt.stdin(), &mut input)?;
+    let end = put(&input[..n], out);
+    rt.write_all(&out[..end])
 }

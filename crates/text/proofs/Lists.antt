@@ -50,12 +50,10 @@ module _ {shown : Bool} (some : Bool) (entry : List ℕ) {out : List ℕ} {at : 
 
 -- ---- numbers, i of them passed
 pub record Numbers (values : List ℕ) (at : ℕ) (out₀ : List ℕ) (next i : ℕ) (out : List ℕ) : Type 0 where
-  pub within : i ≤ length values
   pub leads : Leads (left (ltb 0 i) (map decimal (drop i values))) (number_list values) at out₀ next out
 
 pub numbers_none : (values : List ℕ) (at : ℕ) (out : List ℕ) → Numbers values at out at 0 out
-numbers_none values at out =
-    record { within = omega arith; leads = rw (left_all (map decimal values)) (leads_all (number_list values) at out) }
+numbers_none values at out = record { leads = rw (left_all (map decimal values)) (leads_all (number_list values) at out) }
 
 number_more : (values : List ℕ) (i : ℕ) → i < length values
     → comma_if (ltb 0 i) ++ (decimal (get_or values i 0) ++ left (ltb 0 (i + 1)) (map decimal (drop (i + 1) values))) ≡ left (ltb 0 i) (map decimal (drop i values))
@@ -65,22 +63,21 @@ number_more values i h = rw (lt-ltb 0 (i + 1) (omega arith), add-one i, drop-con
 module _ {values out₀ out : List ℕ} {at next i : ℕ} (n : Numbers values at out₀ next i out) where
   pub number_on : i < length values → {behind next' : ℕ} {out' out'' : List ℕ} → Puts (comma_if (ltb 0 i)) next out behind out'
       → Puts (decimal (get_or values i 0)) behind out' next' out'' → Numbers values at out₀ next' (i + 1) out''
-  number_on h p q =
-      record { within = omega arith; leads = leads_on _ (leads_on _ (rw (number_more values i h) n.leads) p) q }
+  number_on h p q = record { leads = leads_on _ (leads_on _ (rw (number_more values i h) n.leads) p) q }
 
-  pub numbers_all : length values ≤ i → {last : ℕ} {out' : List ℕ} → Puts (dash_unless (ltb 0 i)) next out last out' → Puts (number_list values) at out₀ last out'
+  pub numbers_all : length values ≤ i → i ≤ length values → {last : ℕ} {out' : List ℕ} → Puts (dash_unless (ltb 0 (length values))) next out last out' → Puts (number_list values) at out₀ last out'
   unfolding left
-  numbers_all h p = leads_last (rw (drop_of_length-le values h) at n.leads) p
+  numbers_all h within p =
+      let e : i ≡ length values = omega arith in
+      leads_last (rw (drop_of_length-le values h) at n.leads) (rw (← e) at p)
 
 -- ---- members with their indexes, i of them passed; `some` says whether one of them was shown
 pub record Members {A : Type 0} (shown : A → Bool) (entry : ℕ → A → List ℕ) (members : List A) (at : ℕ) (out₀ : List ℕ) (next : ℕ) (some : Bool) (i : ℕ) (out : List ℕ) : Type 0 where
-  pub within : i ≤ length members
   pub leads : Leads (left some (indexed shown entry i (drop i members))) (listed (indexed shown entry 0 members)) at out₀ next out
 
 pub members_none : {A : Type 0} (shown : A → Bool) (entry : ℕ → A → List ℕ) (members : List A) (at : ℕ) (out : List ℕ)
     → Members shown entry members at out at false 0 out
-members_none shown entry members at out =
-    record { within = omega arith; leads = rw (left_all (indexed shown entry 0 members)) (leads_all _ at out) }
+members_none shown entry members at out = record { leads = rw (left_all (indexed shown entry 0 members)) (leads_all _ at out) }
 
 member_more : {A : Type 0} (shown : A → Bool) (entry : ℕ → A → List ℕ) (members : List A) (d : A) (some : Bool) (i : ℕ) → i < length members
     → entry_if (shown (get_or members i d)) some (entry i (get_or members i d)) ++ left (some || shown (get_or members i d)) (indexed shown entry (i + 1) (drop (i + 1) members)) ≡ left some (indexed shown entry i (drop i members))
@@ -92,8 +89,7 @@ member_more shown entry members d some i h =
 module _ {A : Type 0} {shown : A → Bool} {entry : ℕ → A → List ℕ} {members : List A} {out₀ out : List ℕ} {at next i : ℕ} {some : Bool} (m : Members shown entry members at out₀ next some i out) where
   pub member_on : (d : A) → i < length members → {next' : ℕ} {out' : List ℕ} → Puts (entry_if (shown (get_or members i d)) some (entry i (get_or members i d))) next out next' out'
       → Members shown entry members at out₀ next' (some || shown (get_or members i d)) (i + 1) out'
-  member_on d h p =
-      record { within = omega arith; leads = leads_on _ (rw (member_more shown entry members d some i h) m.leads) p }
+  member_on d h p = record { leads = leads_on _ (rw (member_more shown entry members d some i h) m.leads) p }
 
   pub members_all : length members ≤ i → {last : ℕ} {out' : List ℕ} → Puts (dash_unless some) next out last out'
       → Puts (listed (indexed shown entry 0 members)) at out₀ last out'

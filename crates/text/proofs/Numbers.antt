@@ -55,7 +55,5 @@ hex_whole [] = refl
 hex_whole (b ∷ rest) = rw (lt-ltb 0 (length (b ∷ rest)) (omega arith)) (append-nil (each hex_pair (b ∷ rest)))
 
 pub hex_all : {bytes out₀ out out' : List ℕ} {at next last i : ℕ} → Going hex_pair bytes at out₀ next i out → length bytes ≤ i
-    → Puts (dash_unless (ltb 0 i)) next out last out' → Puts (hex_text bytes) at out₀ last out'
-hex_all {bytes} {i = i} g h p =
-    let e : i ≡ length bytes = omega (arith, g.within) in
-    rw (← hex_whole bytes) (puts_then (going_all g h) (rw e at p))
+    → Puts (dash_unless (ltb 0 (length bytes))) next out last out' → Puts (hex_text bytes) at out₀ last out'
+hex_all {bytes} g h p = rw (← hex_whole bytes) (puts_then (going_all g h) p)

@@ -1,6 +1,8 @@
 -- Laws of text that goes into a buffer. In order: text behind text; one byte; text of which a part is still to come; text byte by
 -- byte; the texts of a list's members; place and buffer where the text fits. Assumes nothing.
-use Prim.Native.Nat.{ℕ, suc, ◌+◌, ◌^◌, ◌≤◌, ◌<◌}
+use Prim.Native.Nat.{ℕ, suc, ◌+◌, ◌-◌, ◌^◌, ◌≤◌, ◌<◌}
+use Rattle.std.proofs.Common.{min}
+use Rattle.std.proofs.lemmas.Bool.Decides.{nat_tests}
 use mathlib.Core.Path.{◌≡◌, refl, ◌∙◌, ap}
 use mathlib.Core.List.{List, [], ◌∷◌, ◌++◌}
 use native.Mathlib.Omega.{arith}
@@ -42,6 +44,11 @@ pub puts_length : {a s s' : List ℕ} {at next : ℕ} → Puts a at s next s' �
 puts_length {a} {s} {at = at} p = ap length p.buffer ∙ length_stored s at a
 
 -- ---- one byte
+-- the place behind a number of the machine
+pub next_is : (at : ℕ) → at < 2 ^ 64 → min (at + 1) (2 ^ 64 - 1) ≡ next_place at
+unfolding next_place
+next_is at fits = grind (arith, nat_tests)
+
 module _ {out : List ℕ} {at next : ℕ} (b : ℕ) (is-next : next ≡ next_place at) where
   pub puts_inside : Puts (b ∷ []) at out next (set out at b)
   unfolding place_behind stored
@@ -85,26 +92,21 @@ module _ {text out₀ out : List ℕ} {at next i : ℕ} (l : Leads (drop i text)
   bytes_all h = leads_none (rw (drop_of_length-le text h) at l)
 
 -- ---- the texts of a list's members, i of them passed
-pub record Going (text : ℕ → List ℕ) (values : List ℕ) (at : ℕ) (out₀ : List ℕ) (next i : ℕ) (out : List ℕ) : Type 0 where
-  pub within : i ≤ length values
+pub record Going {A : Type 0} (text : A → List ℕ) (values : List A) (at : ℕ) (out₀ : List ℕ) (next i : ℕ) (out : List ℕ) : Type 0 where
   pub leads : Leads (each text (drop i values)) (each text values) at out₀ next out
 
-pub going_none : (text : ℕ → List ℕ) (values : List ℕ) (at : ℕ) (out : List ℕ) → Going text values at out at 0 out
-going_none text values at out = record { within = omega arith; leads = leads_all (each text values) at out }
-
-each_more : (text : ℕ → List ℕ) (values : List ℕ) (i : ℕ) → i < length values
-    → text (get_or values i 0) ++ each text (drop (i + 1) values) ≡ each text (drop i values)
+each_more : {A : Type 0} (text : A → List ℕ) (values : List A) (d : A) (i : ℕ) → i < length values
+    → text (get_or values i d) ++ each text (drop (i + 1) values) ≡ each text (drop i values)
 unfolding each
-each_more text values i h = rw (add-one i, drop-cons values i 0 h)
+each_more text values d i h = rw (add-one i, drop-cons values i d h)
 
-each_none : (text : ℕ → List ℕ) (values : List ℕ) (i : ℕ) → length values ≤ i → each text (drop i values) ≡ []
+each_none : {A : Type 0} (text : A → List ℕ) (values : List A) (i : ℕ) → length values ≤ i → each text (drop i values) ≡ []
 unfolding each
 each_none text values i h = rw (drop_of_length-le values h)
 
-module _ {text : ℕ → List ℕ} {values out₀ out : List ℕ} {at next i : ℕ} (g : Going text values at out₀ next i out) where
-  pub going_more : i < length values → {next' : ℕ} {out' : List ℕ} → Puts (text (get_or values i 0)) next out next' out' → Going text values at out₀ next' (i + 1) out'
-  going_more h p =
-      record { within = omega arith; leads = leads_on _ (rw (each_more text values i h) g.leads) p }
+module _ {A : Type 0} {text : A → List ℕ} {values : List A} {out₀ out : List ℕ} {at next i : ℕ} (g : Going text values at out₀ next i out) where
+  pub going_more : (d : A) → i < length values → {next' : ℕ} {out' : List ℕ} → Puts (text (get_or values i d)) next out next' out' → Going text values at out₀ next' (i + 1) out'
+  going_more d h p = record { leads = leads_on _ (rw (each_more text values d i h) g.leads) p }
 
   pub going_all : length values ≤ i → Puts (each text values) at out₀ next out
   going_all h = leads_none (rw (each_none text values i h) at g.leads)

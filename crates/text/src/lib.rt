@@ -3,38 +3,25 @@
 #![tactic(auto)]
 
 ghost use Rattle.std.specs.Prelude.{◌<◌, ◌≡◌, ◌++◌, ◌∷◌, []};
-ghost use Rattle.text.specs.Text.{next_place, Puts};
+ghost use Rattle.text.specs.Text.{Puts};
 ghost use Rattle.text.specs.Numbers.{decimal, row, hex_digit, hex_pair, hex_text};
 ghost use Rattle.text.specs.Lists.{number_list, comma_if, dash_unless};
-
-fn next_place(at: usize) -> usize
-    ensures { result ≡ next_place at }
-{
-    if at < usize::MAX {
-        return at + 1;
-    }
-    at
-}
 
 pub fn put_byte(out: &mut [u8], at: usize, b: u8) -> usize
     ensures { Puts (b ∷ []) at out.old result out.new }
 {
-    let next = next_place(at);
     if at < out.len() {
         out[at] = b;
-        return next;
     }
-    next
+    at.saturating_add(1)
 }
 
 pub fn put_text(out: &mut [u8], at: usize, text: &[u8]) -> usize
     ensures { Puts text.now at out.old result out.new }
 {
     let mut next = at;
-    let mut i = 0;
-    while i < text.len() {
-        next = put_byte(out, next, text[i]);
-        i += 1;
+    for b in text {
+        next = put_byte(out, next, *b);
     }
     next
 }
@@ -46,10 +33,10 @@ pub fn put_decimal(out: &mut [u8], at: usize, x: usize) -> usize
     ensures { Puts (decimal x) at out.old result out.new }
 {
     if x < 10 {
-        return put_byte(out, at, 48 + x as u8);
+        return put_byte(out, at, b'0' + x as u8);
     }
     let next = put_decimal(out, at, x / 10);
-    put_byte(out, next, 48 + (x % 10) as u8)
+    put_byte(out, next, b'0' + (x % 10) as u8)
 }
 
 // A number and the byte behind it.
@@ -65,25 +52,24 @@ pub fn put_row(out: &mut [u8], at: usize, values: &[usize]) -> usize
     ensures { Puts (row values.now) at out.old result out.new }
 {
     let mut next = at;
-    let mut i = 0;
-    while i < values.len() {
+    for value in values {
         let blank = put_byte(out, next, b' ');
-        next = put_decimal(out, blank, values[i]);
-        i += 1;
+        next = put_decimal(out, blank, *value);
     }
     next
 }
 
 // ---- bytes in hex
 
+#[tactic(auto, unfolding(crate::specs::Numbers::hex_digit))]
 fn hex_digit(value: u8) -> u8
     requires { value < 16 }
     ensures { result ≡ hex_digit value }
 {
     if value < 10 {
-        return 48 + value;
+        return b'0' + value;
     }
-    87 + value
+    b'a' - 10 + value
 }
 
 fn put_pair(out: &mut [u8], at: usize, value: u8) -> usize
@@ -98,12 +84,10 @@ pub fn put_hex(out: &mut [u8], at: usize, bytes: &[u8]) -> usize
     ensures { Puts (hex_text bytes.now) at out.old result out.new }
 {
     let mut next = at;
-    let mut i = 0;
-    while i < bytes.len() {
-        next = put_pair(out, next, bytes[i]);
-        i += 1;
+    for b in bytes {
+        next = put_pair(out, next, *b);
     }
-    put_dash(out, next, 0 < i)
+    put_dash(out, next, 0 < bytes.len())
 }
 
 // ---- lists: `some` says whether an entry stands in front
@@ -133,12 +117,9 @@ pub fn put_list(out: &mut [u8], at: usize, numbers: &[u32]) -> usize
     ensures { Puts (number_list numbers.now) at out.old result out.new }
 {
     let mut next = at;
-    let mut i = 0;
-    while i < numbers.len() {
-        let number = numbers[i] as usize;
+    for (i, number) in numbers.iter().enumerate() {
         let behind = put_comma(out, next, 0 < i);
-        next = put_decimal(out, behind, number);
-        i += 1;
+        next = put_decimal(out, behind, *number as usize);
     }
-    put_dash(out, next, 0 < i)
+    put_dash(out, next, 0 < numbers.len())
 }

@@ -13,14 +13,10 @@ fn trace_all(bytes: &[u8], out: &mut [u8]) -> usize
     requires { 1500000 ≤ length out.old }
     ensures { Whole (trace_of bytes.now) out.old result out.new }
 {
-    let traced = trace_text::trace(bytes, out);
-    traced.bytes
+    trace_text::trace(bytes, out).unwrap()
 }
 
 fn main(rt: HostRuntime) -> io::Result<()> {
-    let mut input: [u8; 65537] = streams::zeros();
-    let n = streams::read_full(&mut rt.stdin(), &mut input)?;
-    let mut out: [u8; 1500000] = streams::zeros();
-    let filled = trace_all(&input[..n], &mut out);
-    rt.write_all(&out[..filled])
+    let mut out: [u8; 1500000] = streams::buffer_of(0);
+    streams::tell(&rt, &mut out, trace_all)
 }

@@ -1,29 +1,26 @@
--- Laws of the turns' lines. In order: a record and the lines behind it; their most bytes; the loop that puts them; what each kind of
+-- Laws of the turns' lines. In order: a record and the lines behind it; a turn's line as it is told; their most bytes; the loop that puts them; what each kind of
 -- record gives there. Assumes nothing.
 use Prim.Native.Nat.{ℕ, zero, suc, ◌+◌, ◌*◌, ◌≤◌}
 use mathlib.Core.Path.{◌≡◌, refl, sym, ◌∙◌}
-use mathlib.Core.List.{List, [], ◌++◌}
+use mathlib.Core.List.{List, [], ◌∷◌, ◌++◌, append_assoc}
+use denote.Ref.{Bor}
+use Rattle.std.proofs.Common.{◌⊎◌, inl, inr}
 use native.Mathlib.Omega.{arith}
 use lib.ListN.{length, length-append}
-use Rattle.moves.specs.declared.Turn.{Turn}
-use Rattle.moves.specs.declared.Turn.TheVariants.{Passed, Dealt, Refused}
+use Rattle.moves.specs.Answer.{Answer, Passed, Dealt, Refused}
 use Rattle.run.specs.declared.Run.{Run}
-use Rattle.run.specs.declared.Opened.{Opened}
-use Rattle.run.specs.declared.Entered.{Entered}
-use Rattle.run.specs.declared.Turned.{Turned}
-use Rattle.run.specs.Run.{fresh, open_of, enter_of, turn_of}
+use Rattle.run.specs.Run.{Opened, Entered, Turned, fresh, open_of, enter_of, turn_of}
 use Rattle.records.specs.declared.Record.{Record}
 use Rattle.records.specs.declared.Record.TheVariants.{Open, Enter, Turn as TurnRecord, Close, Number}
-use Rattle.records.specs.declared.Read.{Read}
-use Rattle.records.specs.declared.Read.TheVariants.{Got, Refused as Unread}
+use Rattle.records.specs.Reading.{Read, Got, Refused as Unread}
 use Rattle.outcome.specs.Course.{course, at_start, Step}
 use Rattle.outcome.specs.Step.{served_of, step_of}
 use Rattle.outcome.specs.Schedule.{record_at}
 use Rattle.outcome.proofs.Told.{At, place, record_none}
-use Rattle.text.specs.Text.{letters, Puts}
+use Rattle.text.specs.Text.{letters, each, Puts}
 use Rattle.text.proofs.Text.{Leads, leads_all, leads_none, leads_on, puts_none}
 use Rattle.text.proofs.Numbers.{length_decimal}
-use Rattle.trace_text.specs.Lines.{named, passed_line, dealt_line, turn_line, line_of, on_record, lines_from, turn_lines}
+use Rattle.trace_text.specs.Lines.{named, line, passed_line, dealt_line, turn_line, line_of, on_record, lines_from, turn_lines}
 
 -- ---- a record and the lines behind it
 -- a record that is read lies within the bytes, whatever the run
@@ -46,6 +43,19 @@ module _ (s : List ℕ) (x : Run) (at : ℕ) where
   lines_end zero k present e = refl
   lines_end (suc more) k present e = rw e
 
+-- ---- a turn's line, as it is told: the words and their numbers
+module _ {before after : List ℕ} {at next : ℕ} (t : ℕ) where
+  pub puts_passed : (a b c d : Bor (List ℕ)) {L' cell' s' v' L cell s v : ℕ} → Puts (line t ((a, L') ∷ (b, cell') ∷ (c, s') ∷ (d, v') ∷ [])) at before next after
+      → a.now ≡ letters " layer " → b.now ≡ letters " cell " → c.now ≡ letters " outlet " → d.now ≡ letters " wire " → L' ≡ L → cell' ≡ cell → s' ≡ s → v' ≡ v
+      → Puts (passed_line t L cell s v) at before next after
+  unfolding line passed_line each
+  puts_passed a b c d p e f g h layer cell outlet wire = simp (append_assoc, e, f, g, h, layer, cell, outlet, wire) at p
+
+  pub puts_dealt : (a b : Bor (List ℕ)) {i' n' i n : ℕ} → Puts (line t ((a, i') ∷ (b, n') ∷ [])) at before next after
+      → a.now ≡ letters " exit " → b.now ≡ letters " number " → i' ≡ i → n' ≡ n → Puts (dealt_line t i n) at before next after
+  unfolding line dealt_line each
+  puts_dealt a b p e f exit number = simp (append_assoc, e, f, exit, number) at p
+
 -- ---- the most bytes
 length_passed : (t L c s v : ℕ) → length (passed_line t L c s v) ≤ 128
 unfolding passed_line named letters
@@ -56,7 +66,7 @@ length_dealt : (t i n : ℕ) → length (dealt_line t i n) ≤ 128
 unfolding dealt_line named letters
 length_dealt t i n = simp length-append (omega (arith, length_decimal t, length_decimal i, length_decimal n))
 
-length_turn : (t : ℕ) (a : Turn) → length (turn_line t a) ≤ 128
+length_turn : (t : ℕ) (a : Answer) → length (turn_line t a) ≤ 128
 unfolding turn_line
 length_turn t (Passed l v L c s) = length_passed _ _ _ _ _
 length_turn t (Dealt i n) = length_dealt _ _ _
@@ -152,13 +162,10 @@ module _ (c : Spot) where
   unfolding line_of served_of
   gives_enter e f = silent e refl (rw f)
 
-  pub gives_close : {m : ℕ} → c.item ≡ Close m → Gives c c.x c.next c.out
+  pub gives_silent : ((m : ℕ) × (c.item ≡ Close m)) ⊎ ((t v n : ℕ) × (c.item ≡ Number t v n)) → Gives c c.x c.next c.out
   unfolding line_of served_of
-  gives_close e = silent e refl refl
-
-  pub gives_report : {t v n : ℕ} → c.item ≡ Number t v n → Gives c c.x c.next c.out
-  unfolding line_of served_of
-  gives_report e = silent e refl refl
+  gives_silent (inl (m, e)) = silent e refl refl
+  gives_silent (inr (t, v, n, e)) = silent e refl refl
 
   pub gives_turn : {t next : ℕ} {out : List ℕ} {y : Turned} → c.item ≡ TurnRecord t → y ≡ turn_of c.x t
       → Puts (turn_line t y.answer) c.next c.out next out → Gives c y.run next out

@@ -4,13 +4,17 @@ use mathlib.Core.Path.{◌≡◌, refl}
 use mathlib.Core.List.{List}
 use native.Mathlib.Omega.{arith}
 use lib.ListN.{length, length-append}
-use Rattle.outcome.specs.declared.Outcome.{Outcome}
-use Rattle.outcome.specs.declared.Outcome.TheVariants.{Accepted, Refused}
+use Rattle.outcome.specs.Outcome.{Outcome, Accepted, Refused}
 use Rattle.outcome.specs.Course.{at_start}
 use Rattle.outcome.specs.Whole.{run_of, Ran}
-use Rattle.text.specs.Text.{stored, Puts}
+use Rattle.outcome.specs.declared.Accepted.{Accepted as AcceptedRun}
+use Rattle.outcome.specs.declared.Stopped.{Stopped}
+use Rattle.order.specs.Order.{number_of}
+use Rattle.std.proofs.Common.{Result, Ok, Err}
+use Rattle.text.specs.Text.{Puts}
+use Rattle.listing_text.specs.Lines.{refused_line}
 use Rattle.listing_text.proofs.Told.{run_short}
-use Rattle.listing_text.proofs.Whole.{length_network, length_rest, length_refused, text_wanted}
+use Rattle.listing_text.proofs.Whole.{length_network, length_rest, length_refused, accepted_as, refused_as}
 use Rattle.trace_text.specs.Lines.{turn_lines}
 use Rattle.trace_text.specs.Trace.{accepted_text, text_of, trace_of}
 use Rattle.trace_text.proofs.Lines.{length_lines}
@@ -35,14 +39,13 @@ pub trace_few : (s : List ℕ) → length (trace_of s) < 2 ^ 64
 trace_few s = omega (arith, trace_most s)
 
 -- ---- the text of what was run into a buffer of the program's own
-module _ {s buffer reports : List ℕ} {o : Outcome} (room : length buffer ≡ 65536) (ran : Ran s buffer o reports) where
-  ran_text : trace_of s ≡ text_of o s
-  unfolding trace_of
-  ran_text = rw (ran.outcome, room)
+module _ {s buffer reports : List ℕ} {r : Result AcceptedRun Stopped} (room : length buffer ≡ 65536) (ran : Ran s buffer r reports) where
+  pub accepted_puts : {a : AcceptedRun} → r ≡ Ok a → {before after : List ℕ} {next : ℕ} → Puts (accepted_text a.width a.construction a.entries s) 0 before next after
+      → Puts (trace_of s) 0 before next after
+  unfolding trace_of text_of
+  accepted_puts is p = rw (accepted_as room ran is) p
 
-  module _ {before after : List ℕ} {next : ℕ} (p : Puts (text_of o s) 0 before next after) where
-    pub wanted_is : next ≡ length (trace_of s)
-    wanted_is = rw ran_text (text_wanted (rw (← ran_text) (trace_few s)) p)
-
-    pub filled_is : after ≡ stored before 0 (trace_of s)
-    filled_is = rw ran_text p.buffer
+  pub refused_puts : {e : Stopped} → r ≡ Err e → {before after : List ℕ} {next : ℕ} → Puts (refused_line (number_of e.refusal) e.record e.offset) 0 before next after
+      → Puts (trace_of s) 0 before next after
+  unfolding trace_of text_of
+  refused_puts is p = rw (refused_as room ran is) p

@@ -1,17 +1,16 @@
 -- The lines of a trace: one for each turn. Definitions only. Assumes nothing.
 use Rattle.std.specs.Prelude.{ℕ, zero, suc, ◌+◌, List, [], ◌++◌, length}
-use Rattle.moves.specs.declared.Turn.{Turn}
-use Rattle.moves.specs.declared.Turn.TheVariants.{Passed, Dealt, Refused}
+use Rattle.moves.specs.Answer.{Answer, Passed, Dealt, Refused}
 use Rattle.run.specs.declared.Run.{Run}
 use Rattle.run.specs.Run.{turn_of}
 use Rattle.records.specs.declared.Record.{Record}
 use Rattle.records.specs.declared.Record.TheVariants.{Open, Enter, Turn as TurnRecord, Close, Number}
-use Rattle.records.specs.declared.Read.{Read}
-use Rattle.records.specs.declared.Read.TheVariants.{Got, Refused as Unread}
+use Rattle.records.specs.Reading.{Read, Got, Refused as Unread}
 use Rattle.outcome.specs.Course.{at_start}
 use Rattle.outcome.specs.Step.{served_of}
 use Rattle.outcome.specs.Schedule.{record_at}
-use Rattle.text.specs.Text.{letters}
+use denote.Ref.{Bor}
+use Rattle.text.specs.Text.{letters, each}
 use Rattle.text.specs.Numbers.{decimal}
 
 -- a number behind the word that says what it is
@@ -32,8 +31,15 @@ passed_line t layer cell outlet wire =
 unfoldable pub dealt_line : ℕ → ℕ → ℕ → List ℕ
 dealt_line t exit number = decimal t ++ (named (letters " exit ") exit ++ (named (letters " number ") number ++ letters "\n"))
 
+-- a token and numbers behind their words, as they are lent
+abbrev pub told_text : Bor (List ℕ) × ℕ → List ℕ
+told_text p = named p.0.now p.1
+
+unfoldable pub line : ℕ → List (Bor (List ℕ) × ℕ) → List ℕ
+line t told = decimal t ++ (each told_text told ++ letters "\n")
+
 -- the line of a turn's answer; a refused turn, of which an accepted schedule has none, has no line
-unfoldable pub turn_line : ℕ → Turn → List ℕ
+unfoldable pub turn_line : ℕ → Answer → List ℕ
 turn_line t (Passed l v L c s) = passed_line t L c s v
 turn_line t (Dealt i n) = dealt_line t i n
 turn_line t (Refused k) = []

@@ -1,8 +1,7 @@
 -- What the trace program writes for a schedule: as the listing, with a line for each turn in place of those of the reports.
 -- Definitions only. Assumes nothing.
 use Rattle.std.specs.Prelude.{List, ◌++◌, ℕ}
-use Rattle.outcome.specs.declared.Outcome.{Outcome}
-use Rattle.outcome.specs.declared.Outcome.TheVariants.{Accepted, Refused}
+use Rattle.outcome.specs.Outcome.{Outcome, Accepted, Refused}
 use Rattle.outcome.specs.Whole.{run_of}
 use Rattle.listing_text.specs.Lines.{refused_line, network_line, rest_line}
 use Rattle.trace_text.specs.Lines.{turn_lines}

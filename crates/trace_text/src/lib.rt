@@ -3,65 +3,61 @@
 #![tactic(auto)]
 
 ghost use Rattle.std.specs.Prelude.{◌≡◌};
+ghost use Rattle.moves.specs.Answer.{answered};
 ghost use Rattle.text.specs.Text.{Puts};
 ghost use Rattle.listing_text.specs.Listing.{Lists};
-ghost use Rattle.trace_text.specs.Lines.{named, passed_line, dealt_line, turn_line, turn_lines};
-ghost use Rattle.trace_text.specs.Trace.{accepted_text, text_of, trace_of};
+ghost use Rattle.trace_text.specs.Lines.{line, turn_line, turn_lines};
+ghost use Rattle.trace_text.specs.Trace.{accepted_text, trace_of};
 
-use listing_text::Listed;
+use listing_text::TooShort;
 use moves::Turn;
-use outcome::Outcome;
-use records::{Read, Record};
+use order::Refusal;
+use outcome::Accepted;
+use records::{Got, Record};
 use run::Run;
 
-fn put_named(out: &mut [u8], at: usize, word: &[u8], x: usize) -> usize
-    ensures { Puts (named word.now x) at out.old result out.new }
+// A token, and numbers behind the words that say what they are.
+fn put_line(out: &mut [u8], at: usize, token: u16, told: &[(&[u8], usize)]) -> usize
+    ensures { Puts (line token told.now) at out.old result out.new }
 {
-    let next = text::put_text(out, at, word);
-    text::put_decimal(out, next, x)
+    let mut next = text::put_decimal(out, at, usize::from(token));
+    for (word, x) in told {
+        let behind = text::put_text(out, next, word);
+        next = text::put_decimal(out, behind, *x);
+    }
+    text::put_byte(out, next, b'\n')
 }
 
-fn put_passed(
-    out: &mut [u8],
-    at: usize,
-    token: u16,
-    layer: u16,
-    cell: u8,
-    outlet: u8,
-    wire: u16,
-) -> usize
-    ensures { Puts (passed_line token layer cell outlet wire) at out.old result out.new }
+// The line of a turn; a refused one has none.
+fn put_turn(out: &mut [u8], at: usize, token: u16, answer: Result<Turn, Refusal>) -> usize
+    ensures { Puts (turn_line token (answered answer)) at out.old result out.new }
 {
-    let first = text::put_decimal(out, at, token as usize);
-    let second = put_named(out, first, b" layer ", layer as usize);
-    let third = put_named(out, second, b" cell ", cell as usize);
-    let fourth = put_named(out, third, b" outlet ", outlet as usize);
-    let fifth = put_named(out, fourth, b" wire ", wire as usize);
-    text::put_byte(out, fifth, b'\n')
-}
-
-fn put_dealt(out: &mut [u8], at: usize, token: u16, exit: u16, number: u32) -> usize
-    ensures { Puts (dealt_line token exit number) at out.old result out.new }
-{
-    let first = text::put_decimal(out, at, token as usize);
-    let second = put_named(out, first, b" exit ", exit as usize);
-    let third = put_named(out, second, b" number ", number as usize);
-    text::put_byte(out, third, b'\n')
-}
-
-fn put_turn(out: &mut [u8], at: usize, token: u16, answer: Turn) -> usize
-    ensures { Puts (turn_line token answer) at out.old result out.new }
-{
-    match answer {
+    let Ok(turn) = answer else {
+        return at;
+    };
+    match turn {
         Turn::Passed {
             level: _,
             wire,
             layer,
             cell,
             outlet,
-        } => put_passed(out, at, token, layer, cell, outlet, wire),
-        Turn::Dealt { exit, number } => put_dealt(out, at, token, exit, number),
-        Turn::Refused(_) => at,
+        } => {
+            let told: [(&[u8], usize); 4] = [
+                (b" layer ", usize::from(layer)),
+                (b" cell ", usize::from(cell)),
+                (b" outlet ", usize::from(outlet)),
+                (b" wire ", usize::from(wire)),
+            ];
+            put_line(out, at, token, &told)
+        }
+        Turn::Dealt { exit, number } => {
+            let told: [(&[u8], usize); 2] = [
+                (b" exit ", usize::from(exit)),
+                (b" number ", number as usize),
+            ];
+            put_line(out, at, token, &told)
+        }
     }
 }
 
@@ -69,88 +65,49 @@ fn put_turn(out: &mut [u8], at: usize, token: u16, answer: Turn) -> usize
 fn put_turns(out: &mut [u8], at: usize, bytes: &[u8]) -> usize
     ensures { Puts (turn_lines bytes.now) at out.old result out.new }
 {
-    let opened = Run::open(0, 0);
-    let mut run = opened.run;
+    let mut run = Run::open(0, 0).state;
     let mut next = at;
     let mut from = 0;
+    // no `for`: a record tells where the next one stands
     'turns: while from < bytes.len() {
-        let read = records::read_in_schedule(&bytes[from..]);
-        let Read::Got(item, len) = read else {
+        let Ok(Got { record, length }) = records::read_in_schedule(&bytes[from..]) else {
             return next;
         };
-        match item {
+        match record {
             Record::Open {
                 width,
                 construction,
-            } => {
-                let opened = Run::open(width, construction);
-                run = opened.run;
-            }
-            Record::Enter { token, wire } => {
-                let entered = run.enter(token, wire);
-                run = entered.run;
-            }
+            } => run = Run::open(width, construction).state,
+            Record::Enter { token, wire } => run = run.enter(token, wire).state,
             Record::Turn { token } => {
                 let turned = run.turn(token);
-                let answer = turned.answer;
-                next = put_turn(out, next, token, answer);
-                run = turned.run;
+                next = put_turn(out, next, token, turned.answer);
+                run = turned.state;
             }
-            Record::Close { entered: _ } => {}
-            _ => {}
+            Record::Close { .. } | Record::Number { .. } => {}
         }
-        from = from + len;
+        from += length;
     }
     next
 }
 
-fn put_accepted(out: &mut [u8], width: u16, construction: u16, entries: u32, bytes: &[u8]) -> usize
-    ensures { Puts (accepted_text width construction entries bytes.now) 0 out.old result out.new }
+fn put_accepted(out: &mut [u8], accepted: Accepted, bytes: &[u8]) -> usize
+    ensures { Puts (accepted_text accepted.width accepted.construction accepted.entries bytes.now) 0 out.old result out.new }
 {
-    let first = listing_text::put_network(out, width as usize, construction);
+    let first = listing_text::put_network(out, accepted);
     let second = put_turns(out, first, bytes);
-    listing_text::put_rest(out, second, entries as usize)
-}
-
-// The text of a schedule that has come to this outcome.
-fn put_outcome(out: &mut [u8], outcome: Outcome, bytes: &[u8]) -> usize
-    ensures { Puts (text_of outcome bytes.now) 0 out.old result out.new }
-{
-    match outcome {
-        Outcome::Accepted {
-            width,
-            construction,
-            entries,
-            bytes: _,
-        } => put_accepted(out, width, construction, entries, bytes),
-        Outcome::Refused {
-            number,
-            record,
-            offset,
-            present: _,
-        } => listing_text::put_refused(out, number as usize, record, offset),
-    }
+    listing_text::put_rest(out, second, accepted)
 }
 
 // The trace of a schedule, where there is room for it; else `out` stays, and the answer says how much is wanted.
-pub fn trace(bytes: &[u8], out: &mut [u8]) -> Listed
+pub fn trace(bytes: &[u8], out: &mut [u8]) -> Result<usize, TooShort>
     ensures { Lists (trace_of bytes.now) out.old result out.new }
 {
     let mut reports = [0u8; outcome::MAX_BYTES];
-    let outcome = schedule::run(bytes, &mut reports);
-    let mut scrap = [0u8; 1];
-    let wanted = put_outcome(&mut scrap, outcome, bytes);
-    if out.len() < wanted {
-        return Listed {
-            refusal: 17,
-            bytes: 0,
-            wanted: wanted,
-        };
-    }
-    put_outcome(out, outcome, bytes);
-    Listed {
-        refusal: 0,
-        bytes: wanted,
-        wanted: wanted,
+    match schedule::run(bytes, &mut reports) {
+        Ok(accepted) => { listing_text::put_if_room(out, |out| put_accepted(out, accepted, bytes)) }
+        Err(stopped) => {
+            listing_text::put_if_room(out, |out| listing_text::put_refused(out, stopped))
+        }
     }
 }

@@ -1,14 +1,9 @@
--- `board::counts_zero` meets its contract. The invariant: what is found so far, with the counts left, gives the answer; the measure
--- is the counts left. Assumes nothing.
+-- `board::counts_zero` meets its contract. The invariant: what is found so far is so of the counts passed. Assumes nothing.
 use mathlib.Core.Path.{◌≡◌}
-use mathlib.Core.Bool.{◌&&◌}
-use Prim.Native.Nat.{◌-◌}
-use lib.ListN.{drop}
-use Rattle.board.specs.Sound.{all, is_zero}
+use lib.ListN.{take}
+use Rattle.std.specs.List.{list_all}
+use Rattle.board.specs.Sound.{is_zero}
 use Rattle.board.proofs.counts_zero.Given as goal
 
-abbrev pub invariant-loop-i : goal.invariant-loop-i
-invariant-loop-i l = (l.ok && all is_zero (drop l.i l.counts)) ≡ all is_zero (drop l.from l.counts)
-
-abbrev pub decreases-loop-i : goal.decreases-loop-i
-decreases-loop-i l = 64 - l.i
+abbrev pub invariant-loop-c : goal.invariant-loop-c
+invariant-loop-c l = l.ok ≡ list_all is_zero (take l.c-index l.c-items)

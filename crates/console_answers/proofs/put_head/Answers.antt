@@ -5,4 +5,4 @@ use Rattle.console_answers.proofs.put_head.Goals as goal
 
 pub returns : goal.returns
 unfolding head_of
-returns c = puts_then c.put_decimal-next.ensures c.put_row.ensures
+returns c = rw c.from.ensures at (puts_then c.put_decimal-next.ensures c.put_row.ensures)

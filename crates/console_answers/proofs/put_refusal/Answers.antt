@@ -5,4 +5,4 @@ use Rattle.console_answers.proofs.put_refusal.Goals as goal
 
 pub returns : goal.returns
 unfolding refusal_line letters
-returns c = c.put_number.ensures
+returns c = rw c.from.ensures at c.put_number.ensures

@@ -6,4 +6,4 @@ use Rattle.console_record.proofs.put_board.Goals as goal
 
 pub returns : goal.returns
 unfolding board_text letters
-returns c = puts_then c.put_counts-first.ensures (puts_then c.put_byte-second.ensures (puts_then c.put_toggles-third.ensures (puts_then c.put_byte-fourth.ensures c.put_places.ensures)))
+returns c = puts_then c.put_list-first.ensures (puts_then c.put_byte-second.ensures (puts_then c.put_list-third.ensures (puts_then c.put_byte-fourth.ensures c.put_list.ensures)))

@@ -6,4 +6,4 @@ use Rattle.console_small.proofs.record.Goals as goal
 
 pub returns : goal.returns
 unfolding small_line letters
-returns c = puts_then c.put_parts-first.ensures (puts_then c.put_byte-second.ensures (puts_then c.put_dials-third.ensures c.put_byte.ensures))
+returns c = puts_then c.put_parts-first.ensures (puts_then c.put_byte-second.ensures (puts_then c.put_list-third.ensures c.put_byte.ensures))

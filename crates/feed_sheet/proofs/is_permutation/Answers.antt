@@ -1,34 +1,19 @@
--- `feed_sheet::is_permutation` meets its contract. The invariant: the bytes from i on are below the length and apart, and `seen`
--- marks them. The measure is i. Assumes nothing.
-use Prim.Native.Nat.{◌-◌}
+-- `feed_sheet::is_permutation` meets its contract: the bytes before are below the length and apart, and `seen` marks them.
+-- Assumes nothing.
 use native.Mathlib.Omega.{arith}
-use Rattle.feed_sheet.proofs.Behind.{behind_none, too_high, twice, behind_more, behind_all}
+use Rattle.feed_sheet.proofs.Seen.{seen_none, seen_all, too_high, twice}
 use Rattle.feed_sheet.proofs.is_permutation.Goals as goal
+use Rattle.feed_sheet.proofs.is_permutation.Goals.{then-row-place-via-then-row-place, then-row-place-via-else-row-place+then-seen-place}
 
-pub loop-i-init : goal.loop-i-init
-loop-i-init c = behind_none _
+pub loop-b-init : goal.loop-b-init
+loop-b-init c = seen_none _
 
-pub overflow_cast-b : goal.overflow_cast-b
-overflow_cast-b c = omega (arith, c.type_inv.row (c.loop-i.i - 1))
-
-pub returns-then-n-b : goal.returns-then-n-b
-returns-then-n-b c = too_high c.loop-i.invariant c.loop-i-test.true c.if-n-b.true
-
-pub bounds-seen-b : goal.bounds-seen-b
-bounds-seen-b c = omega (arith, c.type_inv.row (c.loop-i.i - 1))
-
-pub returns-then-seen-b : goal.returns-then-seen-b
-returns-then-seen-b c =
-    twice c.loop-i.invariant c.loop-i-test.true
-    (omega (arith, c.type_inv.row (c.loop-i.i - 1))) c.if-n-b.false c.if-seen-b.true
-
-pub bounds-seen-b-in-loop-i : goal.bounds-seen-b-in-loop-i
-bounds-seen-b-in-loop-i c = omega (arith, c.type_inv.row (c.loop-i.i - 1))
-
-pub loop-i-preserved : goal.loop-i-preserved
-loop-i-preserved c =
-    behind_more c.loop-i.invariant c.loop-i-test.true
-    (omega (arith, c.type_inv.row (c.loop-i.i - 1))) c.if-n-b.false c.if-seen-b.false
+pub returns-then-row-place : goal.returns-then-row-place
+returns-then-row-place c =
+    elim c.then-row-place.branch [
+      | then-row-place-via-then-row-place w ↦ too_high c.loop-b.invariant c.loop-b-test.true (rw c.from-place.ensures at w.if-row-place.true)
+      | then-row-place-via-else-row-place+then-seen-place w ↦ twice c.loop-b.invariant c.loop-b-test.true (omega (arith, c.type_inv.row c.loop-b.b-index)) (rw c.from-place.ensures at w.if-seen-place.true)
+    ]
 
 pub returns : goal.returns
-returns c = behind_all c.loop-i.invariant c.loop-i-test.false
+returns c = seen_all c.loop-b.invariant c.loop-b-test.false

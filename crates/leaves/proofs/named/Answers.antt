@@ -1,14 +1,16 @@
 -- `leaves::named` meets its contract. Assumes nothing.
-use mathlib.Core.Path.{sym, ◌∙◌}
-use Rattle.leaves.proofs.Laying.{named_refused, named_made}
-use borrow.Author.Rules.{rules}
+use Rattle.std.proofs.lemmas.Result.{err_from_is_err_and}
+use Rattle.designs.specs.Panels.{named}
+use Rattle.leaves.proofs.Filling.{kept_same}
+use Rattle.leaves.proofs.Laying.{judged_made, judged_refused}
 use Rattle.leaves.proofs.named.Goals as goal
 
-pub returns-then-number-ne0 : goal.returns-then-number-ne0
-returns-then-number-ne0 c = named_refused _ _ _ c.field_of_two-width.ensures c.field_of_two-construction.ensures c.open_refusal-number.ensures _ _ c.if-number-ne0.true c.told_at.ensures
-
-pub put_network-requires : goal.put_network-requires
-put_network-requires c = (search rules, search rules, sym c.open_refusal-number.ensures ∙ c.if-number-ne0.false)
+pub returns-in_err-judged : goal.returns-in_err-judged
+returns-in_err-judged c =
+    let p = err_from_is_err_and c.from_residual.result c.from_residual.ensures.1 in
+    rw (← c.field_of_two-width.ensures, ← c.field_of_two-construction.ensures, p.1, p.2) (judged_refused _ (named _ _) c.check_open.ensures _ c.in_err-judged.ensures (kept_same _ _ _))
 
 pub returns : goal.returns
-returns c = named_made _ _ _ c.field_of_two-width.ensures c.field_of_two-construction.ensures c.open_refusal-number.ensures c.if-number-ne0.false c.put_network.ensures (rw c.depth_of.ensures at c.told_at-2.ensures)
+returns c =
+    rw (← c.field_of_two-width.ensures, ← c.field_of_two-construction.ensures, c.depth_of.ensures)
+    (judged_made _ (named _ _) c.check_open.ensures c.in_ok-judged.ensures c.put_network.ensures)

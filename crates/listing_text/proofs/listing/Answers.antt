@@ -1,11 +1,22 @@
--- `listing_text::listing` meets its contract: the first text is put for its length alone, the second where there is room.
--- Assumes nothing.
-use Rattle.listing_text.proofs.Whole.{listing_few, wanted_is, filled_is, lists_none, lists_all}
-use borrow.Author.Rules.{rules}
+-- `listing_text::listing` meets its contract: what is put is the text of what was run. Assumes nothing.
+use Rattle.std.proofs.Common.{rules, sym}
+use lib.Seq.{length-take-le}
+use Rattle.listing_text.specs.Listing.{listing_of}
+use Rattle.listing_text.proofs.Whole.{listing_few, reports_within, accepted_puts, refused_puts}
 use Rattle.listing_text.proofs.listing.Goals as goal
 
-pub returns-then-out-wanted : goal.returns-then-out-wanted
-returns-then-out-wanted c = lists_none _ _ _ (wanted_is (search rules) c.run-outcome.ensures c.put_outcome-wanted.ensures) c.if-out-wanted.true
+pub slice_bounds-reports-end : goal.slice_bounds-reports-end
+slice_bounds-reports-end c = reports_within (search rules) c.run.ensures c.in-Ok.is
 
-pub returns : goal.returns
-returns c = lists_all _ _ _ (wanted_is (search rules) c.run-outcome.ensures c.put_outcome-wanted.ensures) (listing_few _) _ c.if-out-wanted.false (filled_is (search rules) c.run-outcome.ensures c.put_outcome.ensures)
+pub slice_bounds-filled-end : goal.slice_bounds-filled-end
+slice_bounds-filled-end c = sym (length-take-le _ _ (reports_within (search rules) c.run.ensures c.in-Ok.is))
+
+pub returns-in-Ok : goal.returns-in-Ok
+returns-in-Ok c =
+    c.put_if_room.ensures (listing_of c.args.bytes.now) (listing_few _)
+    (λ lent next left k. accepted_puts (search rules) c.run.ensures c.in-Ok.is (search rules))
+
+pub returns-in-Err : goal.returns-in-Err
+returns-in-Err c =
+    c.put_if_room-in-Err.ensures (listing_of c.args.bytes.now) (listing_few _)
+    (λ lent next left k. refused_puts (search rules) c.run.ensures c.in-Err.is (search rules))

@@ -1,16 +1,13 @@
 -- `listing_text::put_lines` meets its contract. The loop's invariant: the lines of the reports left, put where the text has got to, give
--- the whole. The measure is the reports left. Assumes nothing.
-use Rattle.listing_text.proofs.Lines.{begins, ends, goes_on}
+-- the whole. Assumes nothing.
+use Rattle.std.proofs.Common.{◌∙◌}
+use Rattle.listing_text.proofs.Lines.{ends, goes_on}
 use Rattle.listing_text.proofs.put_lines.Goals as goal
 
-pub loop-left-init : goal.loop-left-init
-loop-left-init c = begins _ _ _ _
-
-pub loop-left-preserved : goal.loop-left-preserved
-loop-left-preserved c = goes_on c.loop-left.invariant c.loop-left-test.true c.field_of_two-token.ensures c.field_of_two-exit.ensures c.field_of_four-number.ensures c.put_three-next.ensures
-
-pub shape_of-out : goal.shape_of-out
-shape_of-out c = c.loop-left.invariant.leads.same
+pub loop-report-preserved : goal.loop-report-preserved
+loop-report-preserved c =
+    let step = c.in-Some.ensures.steps in
+    goes_on c.loop-report.invariant _ _ step.0 step.1.0 step.1.1 (c.from-token.ensures ∙ c.field_of_two.ensures) (c.from-exit.ensures ∙ c.field_of_two-in-loop-report.ensures) c.field_of_four-number.ensures c.put_three-next.ensures
 
 pub returns : goal.returns
-returns c = ends c.loop-left.invariant c.loop-left-test.false
+returns c = ends c.loop-report.invariant c.in-None.ensures.steps.1.0

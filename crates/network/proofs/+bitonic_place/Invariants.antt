@@ -2,4 +2,4 @@
 use Rattle.network.proofs.+bitonic_place.Given as goal
 
 abbrev pub decreases-bitonic_place : goal.decreases-bitonic_place
-decreases-bitonic_place l = l.k
+decreases-bitonic_place l = l.width.levels

@@ -1,28 +1,19 @@
--- `network::bitonic_row` meets its contract, by recursion on k. Assumes nothing.
-use native.Mathlib.Omega.{arith}
-use mathlib.Core.Path.{◌∙◌}
-use Rattle.network.proofs.Parts.{halved, bitonic_level, bitonic_inner, bitonic_fed, merger_layer, bitonic_merged}
+-- `network::bitonic_row` meets its contract, by recursion on the width. Assumes nothing.
+use Rattle.std.proofs.Common.{◌∙◌, arith}
+use Rattle.network.proofs.Parts.{bitonic_inner, bitonic_fed, bitonic_merged}
 use Rattle.network.proofs.+bitonic_row.Goals as goal
 
-pub overflow_sub-k : goal.overflow_sub-k
-overflow_sub-k t c = omega (arith, bitonic_level c.args.k c.args.layer c.requires.2)
-
-pub overflow_sub-k-then-layer-before : goal.overflow_sub-k-then-layer-before
-overflow_sub-k-then-layer-before t c = omega (arith, bitonic_level c.args.k c.args.layer c.requires.2)
-
-pub bitonic_row-inner-requires : goal.bitonic_row-inner-requires
-bitonic_row-inner-requires t c =
-    let p = bitonic_level c.args.k c.args.layer c.requires.2 in
-    (omega arith, (omega arith, (halved c.args.k c.args.w c.requires.0 c.requires.1 p).half, omega arith))
-
 pub feed_row-requires : goal.feed_row-requires
-feed_row-requires t c = ((halved c.args.k c.args.w c.requires.0 c.requires.1 (bitonic_level c.args.k c.args.layer c.requires.2)).small, bitonic_inner c.args.k c.args.w c.args.layer _ c.requires.0 c.requires.1 (bitonic_level c.args.k c.args.layer c.requires.2) c.bitonic_depth-before.ensures c.if-layer-before.true _ c.bitonic_row-inner.ensures)
+feed_row-requires t c =
+    let half = c.half-half in
+    (half.ensures.low, bitonic_inner _ _ _ _ c.args.layer _ (grind arith) half.ensures.levels half.result.power half.ensures.wires c.bitonic_depth-before.ensures c.if-layer-before.true _ c.bitonic_row-inner.ensures)
 
 pub returns-then-layer-before : goal.returns-then-layer-before
-returns-then-layer-before t c = c.feed_row.ensures ∙ bitonic_fed c.args.k c.args.w c.args.layer _ c.requires.0 c.requires.1 (bitonic_level c.args.k c.args.layer c.requires.2) c.bitonic_depth-before.ensures c.if-layer-before.true _ c.bitonic_row-inner.ensures
-
-pub part_row-requires : goal.part_row-requires
-part_row-requires t c = (c.requires.0, c.requires.1, merger_layer c.args.k c.args.w c.args.layer _ c.requires.0 c.requires.1 (bitonic_level c.args.k c.args.layer c.requires.2) c.bitonic_depth-before.ensures c.if-layer-before.false c.requires.2)
+returns-then-layer-before t c =
+    let half = c.half-half in
+    c.feed_row.ensures ∙ bitonic_fed _ _ _ _ c.args.layer _ (grind arith) half.ensures.levels half.result.power half.ensures.wires c.bitonic_depth-before.ensures c.if-layer-before.true _ c.bitonic_row-inner.ensures
 
 pub returns : goal.returns
-returns t c = c.part_row.ensures ∙ bitonic_merged c.args.k c.args.w c.args.layer _ c.requires.0 c.requires.1 (bitonic_level c.args.k c.args.layer c.requires.2) c.bitonic_depth-before.ensures c.if-layer-before.false
+returns t c =
+    let half = c.half-half in
+    c.part_row.ensures ∙ bitonic_merged _ _ _ _ c.args.layer _ (grind arith) half.ensures.levels half.result.power half.ensures.wires c.bitonic_depth-before.ensures c.if-layer-before.false

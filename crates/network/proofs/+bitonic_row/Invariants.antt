@@ -2,4 +2,4 @@
 use Rattle.network.proofs.+bitonic_row.Given as goal
 
 abbrev pub decreases-bitonic_row : goal.decreases-bitonic_row
-decreases-bitonic_row l = l.k
+decreases-bitonic_row l = l.width.levels

@@ -2,4 +2,4 @@
 use Rattle.network.proofs.+part_place.Given as goal
 
 abbrev pub decreases-part_place : goal.decreases-part_place
-decreases-part_place l = l.k
+decreases-part_place l = l.width.levels

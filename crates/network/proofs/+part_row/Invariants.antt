@@ -2,4 +2,4 @@
 use Rattle.network.proofs.+part_row.Given as goal
 
 abbrev pub decreases-part_row : goal.decreases-part_row
-decreases-part_row l = l.k
+decreases-part_row l = l.width.levels

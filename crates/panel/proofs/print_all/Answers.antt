@@ -1,15 +1,16 @@
 -- `panel::print_all` meets its contract: the room is enough for every text. Assumes nothing.
-use Prim.Native.Nat.{ℕ, ◌≤◌}
-use mathlib.Core.List.{List}
-use native.Mathlib.Omega.{arith}
-use lib.ListN.{length}
+use Rattle.std.proofs.Common.{◌≤◌, length, arith}
 use Rattle.panel_text.specs.Panel.{panel_of}
-use Rattle.listing_text.proofs.Whole.{lists_whole}
+use Rattle.listing_text.proofs.Whole.{lists_ok, lists_whole}
 use Rattle.panel_text.proofs.Whole.{panel_most}
 use Rattle.panel.proofs.print_all.Goals as goal
 
-fits_all : {n : ℕ} (s : List ℕ) → 50000 ≤ n → length (panel_of s) ≤ n
-fits_all s room = omega (arith, panel_most s)
+pub unwrap-requires : goal.unwrap-requires
+unwrap-requires c =
+    let fits : length (panel_of c.args.design.now) ≤ length c.args.out.now = omega (arith, panel_most c.args.design.now) in
+    lists_ok fits c.panel.ensures
 
 pub returns : goal.returns
-returns c = lists_whole (fits_all _ c.requires) c.panel-printed.ensures
+returns c =
+    let fits : length (panel_of c.args.design.now) ≤ length c.args.out.now = omega (arith, panel_most c.args.design.now) in
+    lists_whole fits (rw c.unwrap.ensures at c.panel.ensures)

@@ -1,29 +1,27 @@
--- `panel_text::panel` meets its contract: the first text is put for its length alone, the second where there is room.
--- Assumes nothing.
-use mathlib.Core.Path.{sym}
+-- `panel_text::panel` meets its contract: what is put is the text of what was read. Assumes nothing.
+use Rattle.std.proofs.Common.{◌≤◌, of_calls, rules, sym}
 use lib.Seq.{length-take-le}
-use Rattle.listing_text.proofs.Whole.{lists_none, lists_all}
-use Rattle.panel_text.proofs.Whole.{panel_few, filled_within, wanted_is, filled_is}
-use borrow.Author.Rules.{rules}
+use Rattle.panel_text.specs.Panel.{panel_of}
+use Rattle.panel_text.proofs.Whole.{panel_few, shown_design, sheet_puts, fault_puts}
 use Rattle.panel_text.proofs.panel.Goals as goal
 
 pub slice_bounds-sheet-end : goal.slice_bounds-sheet-end
-slice_bounds-sheet-end c = filled_within (search rules) c.read-answer.ensures
+slice_bounds-sheet-end c = (shown_design (search rules) c.read.ensures c.in-Ok.is).within
 
-pub slice_bounds-put_answer-end-2 : goal.slice_bounds-put_answer-end-2
-slice_bounds-put_answer-end-2 c = sym (length-take-le _ _ (filled_within (search rules) c.read-answer.ensures))
+pub slice_bounds-filled-end : goal.slice_bounds-filled-end
+slice_bounds-filled-end c = sym (length-take-le _ _ (shown_design (search rules) c.read.ensures c.in-Ok.is).within)
 
-pub returns-then-out-wanted : goal.returns-then-out-wanted
-returns-then-out-wanted c = lists_none _ _ _ (wanted_is (search rules) c.read-answer.ensures c.put_answer-wanted.ensures) c.if-out-wanted.true
+pub put_if_room-requires : goal.put_if_room-requires
+put_if_room-requires c =
+    let some : 1 ≤ c.in-Ok.panel.width = (shown_design (search rules) c.read.ensures c.in-Ok.is).some in
+    search (rules, of_calls, some)
 
-pub slice_bounds-sheet-end-2 : goal.slice_bounds-sheet-end-2
-slice_bounds-sheet-end-2 c = filled_within (search rules) c.read-answer.ensures
+pub returns-in-Ok : goal.returns-in-Ok
+returns-in-Ok c =
+    c.put_if_room.ensures (panel_of c.args.design.now) (panel_few _)
+    (λ lent next left k. sheet_puts (search rules) c.read.ensures c.in-Ok.is (search rules))
 
-pub slice_bounds-put_answer-end-3 : goal.slice_bounds-put_answer-end-3
-slice_bounds-put_answer-end-3 c = sym (length-take-le _ _ (filled_within (search rules) c.read-answer.ensures))
-
-pub returns : goal.returns
-returns c =
-    let at_read = c.read-answer.ensures in
-    lists_all _ _ _ (wanted_is (search rules) at_read c.put_answer-wanted.ensures) (panel_few _) _ c.if-out-wanted.false
-    (filled_is (search rules) at_read c.put_answer.ensures)
+pub returns-in-Err : goal.returns-in-Err
+returns-in-Err c =
+    c.put_if_room-in-Err.ensures (panel_of c.args.design.now) (panel_few _)
+    (λ lent next left k. fault_puts (search rules) c.read.ensures c.in-Err.is (search rules))

@@ -7,5 +7,5 @@ use Rattle.schedule.proofs.read_at.Goals as goal
 pub returns : goal.returns
 returns c =
     record_turn _ _ _ (omega (arith, c.if-bytes-at-lt6.false, c.requires))
-    (sym c.field_of_two.ensures ∙ c.if-field_of_two-ne6.false) (sym c.field_of_two-2.ensures ∙ c.if-field_of_two-ne3.false)
+    (sym c.field_of_two.ensures ∙ c.if-field_of_two-ne6.false) (sym c.field_of_two-else-field_of_two-ne6.ensures ∙ c.if-field_of_two-ne3.false)
     c.field_of_two-token.ensures

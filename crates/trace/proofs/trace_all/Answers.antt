@@ -1,15 +1,16 @@
 -- `trace::trace_all` meets its contract: the room is enough for every trace. Assumes nothing.
-use Prim.Native.Nat.{ℕ, ◌≤◌}
-use mathlib.Core.List.{List}
-use native.Mathlib.Omega.{arith}
-use lib.ListN.{length}
+use Rattle.std.proofs.Common.{◌≤◌, length, arith}
 use Rattle.trace_text.specs.Trace.{trace_of}
-use Rattle.listing_text.proofs.Whole.{lists_whole}
+use Rattle.listing_text.proofs.Whole.{lists_ok, lists_whole}
 use Rattle.trace_text.proofs.Whole.{trace_most}
 use Rattle.trace.proofs.trace_all.Goals as goal
 
-fits_all : {n : ℕ} (s : List ℕ) → 1500000 ≤ n → length (trace_of s) ≤ n
-fits_all s room = omega (arith, trace_most s)
+pub unwrap-requires : goal.unwrap-requires
+unwrap-requires c =
+    let fits : length (trace_of c.args.bytes.now) ≤ length c.args.out.now = omega (arith, trace_most c.args.bytes.now) in
+    lists_ok fits c.trace.ensures
 
 pub returns : goal.returns
-returns c = lists_whole (fits_all _ c.requires) c.trace-traced.ensures
+returns c =
+    let fits : length (trace_of c.args.bytes.now) ≤ length c.args.out.now = omega (arith, trace_most c.args.bytes.now) in
+    lists_whole fits (rw c.unwrap.ensures at c.trace.ensures)

@@ -1,25 +1,18 @@
--- `console_lines::parts::count` meets its contract. The invariant: the marks passed, and the parts of what is left, are the parts of
--- the text. The measure is the bytes left. Assumes nothing.
+-- `console_lines::parts::count` meets its contract. Assumes nothing.
 use native.Mathlib.Omega.{arith}
-use borrow.Author.Rules.{rules}
-use Rattle.console_lines.proofs.Marked.{count_mark, count_other, count_end}
+use mathlib.Core.Path.{◌≡◌}
+use Rattle.std.proofs.Common.{rules, tests, length, eqb}
+use Rattle.std.proofs.lemmas.Iterator.Consumers.{count_from_yields_List}
+use Rattle.std.proofs.lemmas.Iterator.Splits.{YieldsList-from_slice_split}
+use Rattle.std.proofs.lemmas.List.Splits.{length-slice_split}
+use Rattle.std.proofs.lemmas.List.Sums.{count_by-le-length}
+use Rattle.console_lines.specs.Marked.{parts_of, part_count}
 use Rattle.console_lines.proofs.parts.count.Goals as goal
-use Rattle.console_lines.proofs.parts.count.Goals.{then-text-i, else-text-i}
-
-pub loop-i-init : goal.loop-i-init
-loop-i-init c = record { within = search rules; most = search rules; rest = omega arith }
-
-pub loop-i-preserved : goal.loop-i-preserved
-loop-i-preserved c =
-    let mark = c.args.mark in
-    let text = c.args.text.now in
-    let i = c.loop-i.i in
-    elim c.if-text-i.branch [
-      | then-text-i w ↦ record { within = omega arith; most = omega arith; rest = omega (arith, count_mark mark text i (search rules) w.if-text-i.true) }
-      | else-text-i w ↦ record { within = omega arith; most = omega arith; rest = omega (arith, count_other mark text i (search rules) w.if-text-i.false) }
-    ]
 
 pub returns : goal.returns
+unfolding part_count
 returns c =
-    let start = c.args in
-    record { whole = omega (arith, count_end start.mark start.text.now c.loop-i.i (search rules)); most = search rules }
+    let mark = c.args.mark in
+    let text = c.args.text.now in
+    let whole : c.count.result ≡ length (parts_of mark text) = count_from_yields_List c.split.result _ c.count.ensures.ran (YieldsList-from_slice_split _ (λ glyph. eqb glyph mark) text c.split.ensures.rest c.split.ensures.done c.split.ensures.closure (λ x b q k. search (rules, tests))) in
+    record { whole = whole; most = omega (arith, length-slice_split (λ glyph. eqb glyph mark) text, count_by-le-length (λ glyph. eqb glyph mark) text) }

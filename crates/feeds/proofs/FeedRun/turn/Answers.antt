@@ -1,15 +1,12 @@
--- `feeds::FeedRun::turn` meets its contract: the sheet's refusal first, then 9 where the record is not sound. Assumes nothing.
-use mathlib.Core.Path.{sym, ◌∙◌}
-use Rattle.feeds.proofs.Calls.{turns_refused, turns_unsound}
+-- `feeds::FeedRun::turn` meets its contract: a sound run is narrow, and has dealt few numbers. Assumes nothing.
+use Rattle.order.specs.Order.{first_of}
+use Rattle.std.proofs.lemmas.Grind.{common_steps}
+use native.Mathlib.Omega.{arith}
+use Rattle.feeds.proofs.Keeps.{judged_sound, few_counts, most_width}
 use Rattle.feeds.proofs.FeedRun.turn.Goals as goal
 
-pub returns-then-refused-ne0 : goal.returns-then-refused-ne0
-returns-then-refused-ne0 c = turns_refused _ _ _ _ c.refusal-refused.ensures c.if-refused-ne0.true
-
-pub turn_judged-requires : goal.turn_judged-requires
-turn_judged-requires c = (sym c.refusal-refused.ensures ∙ c.if-refused-ne0.false, sym c.is_sound-sound.ensures ∙ c.if-sound.true)
-
-pub returns : goal.returns
-returns c =
-    turns_unsound _ _ _ (sym c.refusal-refused.ensures ∙ c.if-refused-ne0.false)
-    (sym c.is_sound-sound.ensures ∙ c.if-sound.false)
+pub deal-moved-requires : goal.deal-moved-requires
+unfolding first_of
+deal-moved-requires c =
+    let good = judged_sound _ _ c.in_default.ensures in
+    (grind (arith, common_steps), (most_width _ good, few_counts _ good _))

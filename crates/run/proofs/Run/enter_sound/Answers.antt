@@ -1,11 +1,7 @@
--- `run::Run::enter_sound` meets its contract. Assumes nothing.
+-- `run::Run::enter_sound` meets its contract: a sound run has room in its count of entries. Assumes nothing.
 use Rattle.board.proofs.Sound as board
 use Rattle.run.proofs.Keeps.{parts}
-use Rattle.run.proofs.Calls.{enters}
 use Rattle.run.proofs.Run.enter_sound.Goals as goal
 
 pub enter-entered-requires : goal.enter-entered-requires
 enter-entered-requires c = (board.parts _ _ _ (parts _ c.requires).board).few
-
-pub returns : goal.returns
-returns c = enters _ _ _ _ c.requires c.enter-entered.ensures

@@ -1,8 +1,0 @@
--- `board::cells` meets its contract: the product of two numbers of 16 bits fits. Assumes nothing.
-use native.Mathlib.Omega.{arith}
-use Prim.Native.Nat.{◌/◌}
-use native.Mathlib.Nat.{mul-le-mul}
-use Rattle.board.proofs.cells.Goals as goal
-
-pub overflow_mul-result : goal.overflow_mul-result
-overflow_mul-result c = omega (arith, mul-le-mul {n₁ = c.args.depth} {m₁ = c.args.width / 2} {n₂ = 65536} {m₂ = 32768} (omega arith) (omega arith))

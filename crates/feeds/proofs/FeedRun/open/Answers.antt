@@ -1,9 +1,0 @@
--- `feeds::FeedRun::open` meets its contract. Assumes nothing.
-use Rattle.feeds.proofs.Calls.{opens, opens_not}
-use Rattle.feeds.proofs.FeedRun.open.Goals as goal
-
-pub returns-then-refusal-eq0 : goal.returns-then-refusal-eq0
-returns-then-refusal-eq0 c = opens _ _ _ _ _ c.refusal-refusal.ensures c.if-refusal-eq0.true c.made-run.ensures
-
-pub returns : goal.returns
-returns c = opens_not _ _ _ _ _ c.refusal-refusal.ensures c.if-refusal-eq0.false c.made-run-2.ensures
