@@ -91,7 +91,7 @@ pub fn call_of(line: &[u8]) -> Call {
     Call::Work(Work::Unknown)
 }
 
-// Is the word of this kind?
+// Is the word of this kind, a letter of the table?
 fn fits(word: &[u8], kind: u8) -> bool {
     match kind {
         b's' => numbers::is_decimal(word, 65_535),

@@ -1,4 +1,5 @@
-// What the console answers: a line, put into the front of a lent text, and sent. A put answers where the line ends.
+// What the console answers: a line, put into the front of a lent text, and sent. A put answers where the line ends. A line begins with a
+// number, that of the refusal or 0, so a put takes the number: callers have it of any answer (`order::number_in`).
 #![tactic(auto)]
 
 ghost use Rattle.std.specs.Prelude.{ℕ, ◌<◌, ◌≤◌, List, IsOk, OnOk, OnErr, length, take};

@@ -81,7 +81,7 @@ fn first_of(rules: &[(bool, Refusal)]) -> Result<(), Refusal>
     Ok(())
 }
 
-// Is the record in front refused before its members are looked at?
+// Is the record in front refused before its members are looked at? Kinds are the numbers of the file here, since one that is none is told too.
 pub fn check_head(bytes: &[u8], left: usize, outermost: bool) -> Result<(), Refusal>
     ensures { refused_by result ≡ head_no left outermost bytes.now }
 {

@@ -6,7 +6,9 @@ use native.Mathlib.Omega.{arith}
 use Rattle.sheets.specs.Sheets.{ViewIs}
 use Rattle.sheets.proofs.Sheets.{view_empty}
 use Rattle.facts.specs.Answers.{OneAnswer}
-use Rattle.facts.proofs.Told.{check_told, filled_told, entered_told, turned_told, polled_told, read_told, panel_told, outcome_told, listed_told, top_told}
+use Rattle.panels.proofs.Told.{answer_tells}
+use Rattle.listing_text.proofs.Whole.{listed_one}
+use Rattle.facts.proofs.Told.{check_told, filled_told, entered_told, turned_told, polled_told, read_told, outcome_told, top_told}
 
 same : {A : Type 0} {a r s : A} → r ≡ a → s ≡ a → r ≡ s
 same e f = e ∙ sym f
@@ -53,7 +55,7 @@ one_answer =
       feed_enter = λ κs a r s l m e f. (entered_told (ap (λ x. x.refusal) (same e f)) (ap (λ x. x.run) (same e f)), refl);
       feed_turn = λ κs a r s l m e f. (turned_told (ap (λ x. x.answer) (same e f)) (ap (λ x. x.run) (same e f)), refl);
       feed_gap_list = λ κs a r s l m e f. (filled_told r s (same e.answer f.answer), λ i. (tt, (same e.numbers f.numbers i, tt)));
-      panel = λ κs a r s l m e f. (panel_told r s (same e.answer f.answer), λ i. (tt, (same e.sheet f.sheet i, tt)));
+      panel = λ κs a r s l m e f. (answer_tells r s (same e.answer f.answer), λ i. (tt, (same e.sheet f.sheet i, tt)));
       dial_opening = λ κs a r s l m e f. (same e f, refl);
       dial_advance = λ κs a r s l m e f. (same e f, refl);
       dial_poll = λ κs a r s l m e f. (same e f, refl);
@@ -62,7 +64,7 @@ one_answer =
       small_enter = λ κs a r s l m e f. (entered_told (ap (λ x. x.refusal) (same e f)) (ap (λ x. x.cabinet) (same e f)), refl);
       small_turn = λ κs a r s l m e f. (turned_told (ap (λ x. x.answer) (same e f)) (ap (λ x. x.cabinet) (same e f)), refl);
       small_poll = λ κs a r s l m e f. (polled_told (ap (λ x. x.refusal) (same e f)) (ap (λ x. x.yielded) (same e f)) (ap (λ x. x.cabinet) (same e f)), refl);
-      listing = λ κs a r s l m e f. (listed_told r s (same e.answer f.answer), λ i. (tt, (same e.buffer f.buffer i, tt)));
-      trace = λ κs a r s l m e f. (listed_told r s (same e.answer f.answer), λ i. (tt, (same e.buffer f.buffer i, tt)));
-      panel_text = λ κs a r s l m e f. (listed_told r s (same e.answer f.answer), λ i. (tt, (same e.buffer f.buffer i, tt)));
+      listing = λ κs a r s l m e f. (listed_one r s (same e.answer f.answer), λ i. (tt, (same e.buffer f.buffer i, tt)));
+      trace = λ κs a r s l m e f. (listed_one r s (same e.answer f.answer), λ i. (tt, (same e.buffer f.buffer i, tt)));
+      panel_text = λ κs a r s l m e f. (listed_one r s (same e.answer f.answer), λ i. (tt, (same e.buffer f.buffer i, tt)));
     }

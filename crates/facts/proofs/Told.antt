@@ -1,13 +1,12 @@
 -- An answer is what it tells in the document's numbers: of each way to tell one, two answers that tell the same are equal. In order: a
--- check; a call that fills a buffer; a call by value, a turn, a poll; reading a record, a design; running a schedule; a text; the highest
--- number. Assumes nothing.
+-- check; a call that fills a buffer; a call by value, a turn, a poll; reading a record; running a schedule; the highest number. That of a
+-- design stands in panels, that of a text in listing_text. Assumes nothing.
 use Prim.Native.Nat.{ℕ}
 use mathlib.Core.Path.{◌≡◌, refl, sym, ap}
-use native.Mathlib.Omega.{arith}
 use Rattle.std.specs.Prelude.{Result, Ok, Err, Option, Some, None, ⊤}
 use Rattle.order.specs.declared.Refusal.{Refusal}
 use Rattle.order.specs.declared.After.{After}
-use Rattle.order.specs.Order.{number_of, refused_by, filled_by}
+use Rattle.order.specs.Order.{refused_by, filled_by}
 use Rattle.order.proofs.Numbers.{number_some, number_tells, number_told}
 use Rattle.moves.specs.declared.Turn.{Turn}
 use Rattle.moves.specs.declared.Turn.TheVariants.{Passed, Dealt}
@@ -15,14 +14,9 @@ use Rattle.moves.specs.Answer.{answered}
 use Rattle.records.specs.declared.Got.{Got}
 use Rattle.records.specs.declared.Unread.{Unread}
 use Rattle.records.specs.Reading.{read_by}
-use Rattle.designs.specs.declared.Fault.{Fault}
-use Rattle.panels.specs.declared.Panel.{Panel}
-use Rattle.panels.specs.Answers.{answer_by}
 use Rattle.outcome.specs.declared.Accepted.{Accepted}
 use Rattle.outcome.specs.declared.Stopped.{Stopped}
 use Rattle.outcome.specs.Outcome.{outcome_by}
-use Rattle.listing_text.specs.declared.TooShort.{TooShort}
-use Rattle.listing_text.specs.Listing.{listed_by}
 use Rattle.dials.specs.Highest.{top_by}
 use Rattle.small.specs.Small.{yielded_by}
 
@@ -80,20 +74,6 @@ read_told (Err u) (Err v) h =
     let present_is : u.present ≡ v.present = cc in
     rw (refusal_is, present_is)
 
-pub panel_told : (r s : Result Panel Fault) → answer_by r ≡ answer_by s → r ≡ s
-panel_told (Ok p) (Ok q) h =
-    let width_is : p.width ≡ q.width = ap (λ x. x.width) h in
-    let depth_is : p.depth ≡ q.depth = ap (λ x. x.depth) h in
-    let filled_is : p.filled ≡ q.filled = ap (λ x. x.filled) h in
-    rw (width_is, depth_is, filled_is)
-panel_told (Ok p) (Err y) h = absurd (number_some y.refusal (sym (ap (λ x. x.refusal) h)))
-panel_told (Err x) (Ok q) h = absurd (number_some x.refusal (ap (λ x. x.refusal) h))
-panel_told (Err x) (Err y) h =
-    let refusal_is : x.refusal ≡ y.refusal = number_tells x.refusal y.refusal (ap (λ x. x.refusal) h) in
-    let offset_is : x.offset ≡ y.offset = ap (λ x. x.offset) h in
-    let present_is : x.present ≡ y.present = ap (λ x. x.present) h in
-    rw (refusal_is, offset_is, present_is)
-
 pub outcome_told : (r s : Result Accepted Stopped) → outcome_by r ≡ outcome_by s → r ≡ s
 outcome_told (Ok a) (Ok b) h =
     let width_is : a.width ≡ b.width = cc in
@@ -109,12 +89,6 @@ outcome_told (Err x) (Err y) h =
     let offset_is : x.offset ≡ y.offset = cc in
     let present_is : x.present ≡ y.present = cc in
     rw (refusal_is, record_is, offset_is, present_is)
-
-pub listed_told : (r s : Result ℕ TooShort) → listed_by r ≡ listed_by s → r ≡ s
-listed_told (Ok m) (Ok n) h = rw (ap (λ x. x.bytes) h)
-listed_told (Ok m) (Err y) h = let never : ◌≡◌ {A = ℕ} 0 17 = ap (λ x. x.refusal) h in absurd (omega arith)
-listed_told (Err x) (Ok n) h = let never : ◌≡◌ {A = ℕ} 17 0 = ap (λ x. x.refusal) h in absurd (omega arith)
-listed_told (Err x) (Err y) h = let wanted_is : x.wanted ≡ y.wanted = ap (λ x. x.wanted) h in rw wanted_is
 
 pub top_told : (r s : Result (Option ℕ) Refusal) → top_by r ≡ top_by s → r ≡ s
 top_told (Ok (Some m)) (Ok (Some n)) h = cc

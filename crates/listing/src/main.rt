@@ -7,7 +7,8 @@ ghost use Rattle.listing_text.specs.Listing.{listing_of, Whole};
 
 use std::io;
 
-// Fills the listing into a buffer that has room for every one, and answers its length.
+// Fills the listing into a buffer that has room for every one, and answers its length. Which text, and how much room every one wants, is all
+// that is the program's own.
 fn list_all(bytes: &[u8], out: &mut [u8]) -> usize
     requires { 350000 ≤ length out.old }
     ensures { Whole (listing_of bytes.now) out.old result out.new }

@@ -8,7 +8,8 @@ ghost use Rattle.panel_text.specs.Panel.{panel_of};
 
 use std::io;
 
-// Fills the text into a buffer that has room for every one, and answers its length.
+// Fills the text into a buffer that has room for every one, and answers its length. Which text, and how much room every one wants, is all
+// that is the program's own.
 fn print_all(design: &[u8], out: &mut [u8]) -> usize
     requires { 50000 ≤ length out.old }
     ensures { Whole (panel_of design.now) out.old result out.new }

@@ -107,6 +107,7 @@ fn series_reader(inner: Stretch, grid: &mut Grid, corner: Corner) -> Result<Size
         at: inner.at + 4,
         ..inner
     };
+    // no `for`: a member tells where the next one stands
     while !rest.bytes.is_empty() {
         let below = Corner {
             row: corner.row + sum.total,
@@ -136,6 +137,7 @@ fn beside_reader(inner: Stretch, grid: &mut Grid, corner: Corner) -> Result<Size
         at: inner.at + 4,
         ..inner
     };
+    // no `for`: a member tells where the next one stands
     while !rest.bytes.is_empty() {
         let behind = Corner {
             col: corner.col + sum.total,

@@ -265,6 +265,7 @@ impl Stage {
     {
         let mut at: usize = 0;
         let mut record: usize = 0;
+        // no `for`: a record tells where the next one stands, and the close ends it
         while self.phase != Phase::Closed {
             let read = read_at(bytes, at);
             let Ok(got) = read else {

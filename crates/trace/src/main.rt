@@ -8,7 +8,8 @@ ghost use Rattle.trace_text.specs.Trace.{trace_of};
 
 use std::io;
 
-// Fills the trace into a buffer that has room for every one, and answers its length.
+// Fills the trace into a buffer that has room for every one, and answers its length. Which text, and how much room every one wants, is all
+// that is the program's own.
 fn trace_all(bytes: &[u8], out: &mut [u8]) -> usize
     requires { 1500000 ≤ length out.old }
     ensures { Whole (trace_of bytes.now) out.old result out.new }

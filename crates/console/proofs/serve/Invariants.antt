@@ -1,5 +1,5 @@
 -- `console::serve` is safe: what the buffers hold stays within them. Assumes nothing.
-use Rattle.std.proofs.Common.{◌≤◌, ◌≡◌, length}
+use Rattle.std.proofs.Common.{◌≤◌, length}
 use Rattle.console.proofs.serve.Given as goal
 
 abbrev pub invariant-loop : goal.invariant-loop
