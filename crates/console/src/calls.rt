@@ -2,7 +2,6 @@
 // one of 32 bits (l), the length of what is lent (r), the kind of a record (1 to 5), bytes in hex (h), those of a feed sheet (f), a
 // list of a record (c, t, p, d).
 use console_lines::{numbers, parts, words};
-use console_lists::Entries;
 
 // What is done to a record that the console holds.
 #[derive(Clone, Copy)]
@@ -99,10 +98,7 @@ fn fits(word: &[u8], kind: u8) -> bool {
         b'r' => numbers::is_decimal(word, 65_536),
         b'h' => numbers::is_hex(word),
         b'f' => numbers::is_hex(word) && word.len() <= 131_072,
-        b'c' => console_lists::is_list(Entries::Counts, word),
-        b't' => console_lists::is_list(Entries::Toggles, word),
-        b'p' => console_lists::is_list(Entries::Places, word),
-        b'd' => console_lists::is_list(Entries::Dials, word),
+        b'c' | b't' | b'p' | b'd' => console_lists::is_list(kind, word),
         digit => numbers::decimal(word, 5) == Some(u64::from(digit.wrapping_sub(b'0'))),
     }
 }

@@ -39,6 +39,10 @@ fn to_front(input: &mut [u8], mut lines: Lines) -> Lines
     ensures { result.to ≤ length input.new }
 {
     let from = lines.from;
+    // one that stands there stays: a long line comes in many reads, and each would copy all that is held
+    if from == 0 {
+        return lines;
+    }
     input.copy_within(from..lines.to, 0);
     lines.from = 0;
     lines.end -= from;

@@ -1,5 +1,5 @@
 -- An entry of a list of a record, as text. Definitions only. Assumes nothing.
-use Rattle.std.specs.Prelude.{ℕ, ◌+◌, ◌≤◌, ◌<◌, ◌≡◌, Bool, ◌&&◌, List, ltb, leb, eqb, Option, IfSome}
+use Rattle.std.specs.Prelude.{ℕ, ◌+◌, ◌≤◌, ◌<◌, ◌≡◌, Bool, cond, ◌&&◌, List, ltb, leb, eqb, Option, IfSome}
 use Rattle.std.specs.Bool.{then_some}
 use Rattle.console_lines.specs.Digits.{is_number, number_in}
 use Rattle.console_lines.specs.Marked.{part_at, part_count}
@@ -46,6 +46,10 @@ is_reading text = are_three 65535 65535 4294967295 text
 -- `i=NOW/LAST/SUM`: the dial of exit i, its last reading and the sum of its yields
 abbrev pub is_dial : List ℕ → ℕ → Bool
 is_dial entry least = is_keyed entry least 64 && is_reading (part_at 61 entry 1)
+
+-- the list that a letter names: of exit counts (c), of toggles (t), of dials (d) or, for any other letter, of places
+abbrev pub entries_of : ℕ → Entries
+entries_of list = cond (eqb list 99) Counts (cond (eqb list 116) Toggles (cond (eqb list 100) Dials Places))
 
 -- an entry of each of the lists
 abbrev pub is_entry : Entries → List ℕ → ℕ → Bool

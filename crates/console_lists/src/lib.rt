@@ -6,7 +6,7 @@ ghost use Rattle.std.specs.Prelude.{◌≡◌, is_some, IfSome};
 ghost use Rattle.std.specs.Bool.{then_some};
 ghost use Rattle.console_lines.specs.Marked.{parts_of, part_at};
 ghost use Rattle.console_lines.specs.Words.{long_at};
-ghost use Rattle.console_lists.specs.Entries.{index_in, is_index, is_keyed, is_count, is_toggle, are_three, is_seat, is_place, is_reading, is_dial, is_entry, next_of, IndexIs, Three};
+ghost use Rattle.console_lists.specs.Entries.{entries_of, index_in, is_index, is_keyed, is_count, is_toggle, are_three, is_seat, is_place, is_reading, is_dial, is_entry, next_of, IndexIs, Three};
 ghost use Rattle.console_lists.specs.Lists.{are_entries, is_list};
 
 use board::{Board, CELLS, EXITS, Place, TOKENS};
@@ -19,6 +19,20 @@ pub enum Entries {
     Toggles,
     Places,
     Dials,
+}
+
+// A letter names a list: c, t, d or, any other, that of places.
+impl From<u8> for Entries {
+    ghost from_gives = { λ list kind. kind ≡ entries_of list };
+
+    fn from(list: u8) -> Entries {
+        match list {
+            b'c' => Entries::Counts,
+            b't' => Entries::Toggles,
+            b'd' => Entries::Dials,
+            _ => Entries::Places,
+        }
+    }
 }
 
 // ---- an entry; each gives the least index of the entry behind it
@@ -138,17 +152,18 @@ fn read_entries(kind: Entries, text: &[u8], board: &mut Board) -> bool
 }
 
 // Reads a list into the board; says whether it was one.
-fn read(kind: Entries, text: &[u8], board: &mut Board) -> bool
+pub fn read(kind: Entries, text: &[u8], board: &mut Board) -> bool
     ensures is_one { result ≡ is_list kind text.now }
     ensures entered { board.new.entered ≡ board.old.entered }
 {
     text == b"-".as_slice() || read_entries(kind, text, board)
 }
 
-pub fn is_list(kind: Entries, text: &[u8]) -> bool
-    ensures { result ≡ is_list kind text.now }
+// Is the text a list that this letter names?
+pub fn is_list(list: u8, text: &[u8]) -> bool
+    ensures { result ≡ is_list (entries_of list) text.now }
 {
-    read(kind, text, &mut board::fresh())
+    read(Entries::from(list), text, &mut board::fresh())
 }
 
 // The board that `set W C ENTERED COUNTS TOGGLES PLACES` names, whether it is sound or not.

@@ -1,4 +1,5 @@
-// The records of a design, each by itself: what it is refused for, and how it is taken apart. Every call answers every argument.
+// The records of a design, each by itself: what it is refused for, and how it is taken apart. Every call answers every
+// argument, but `Stretch::past`, which wants a record that ends within.
 #![tactic(auto)]
 
 ghost use Rattle.std.specs.Prelude.{◌≡◌, true, ◌+◌, ◌≤◌, length, get_or, map};
@@ -69,6 +70,44 @@ fn length_fits(bytes: &[u8]) -> bool
     }
 }
 
+// Is the record in front refused before its members are looked at? Kinds are the numbers of the file here, since one that is none is told too.
+pub fn check_head(bytes: &[u8], left: usize, outermost: bool) -> Result<(), Refusal>
+    ensures { refused_by result ≡ head_no left outermost bytes.now }
+{
+    let n = bytes.len();
+    let size = field_of_two(bytes, 0) as usize;
+    let kind = field_of_two(bytes, 2);
+    let fits = length_fits(bytes);
+    if n < 4 {
+        return Err(Refusal::HeadCut);
+    }
+    if !((16 <= kind) & (kind <= 20)) {
+        return Err(Refusal::UnknownKind);
+    }
+    if (kind == 20) & (size < 5) {
+        return Err(Refusal::WrongLength);
+    }
+    if (kind == 20) & (n < 5) {
+        return Err(Refusal::BodyCut);
+    }
+    if !fits {
+        return Err(Refusal::WrongLength);
+    }
+    if outermost & (size < n) {
+        return Err(Refusal::WrongLength);
+    }
+    if n < size {
+        return Err(Refusal::BodyCut);
+    }
+    if left == 0 {
+        return Err(Refusal::NestedTooDeep);
+    }
+    if (kind <= 17) & (size == 4) {
+        return Err(Refusal::NoMembers);
+    }
+    Ok(())
+}
+
 // The first refusal whose condition holds.
 fn first_of(rules: &[(bool, Refusal)]) -> Result<(), Refusal>
     ensures { refused_by result ≡ first_of (map rule_of rules.now) }
@@ -81,36 +120,18 @@ fn first_of(rules: &[(bool, Refusal)]) -> Result<(), Refusal>
     Ok(())
 }
 
-// Is the record in front refused before its members are looked at? Kinds are the numbers of the file here, since one that is none is told too.
-pub fn check_head(bytes: &[u8], left: usize, outermost: bool) -> Result<(), Refusal>
-    ensures { refused_by result ≡ head_no left outermost bytes.now }
-{
-    let n = bytes.len();
-    let size = field_of_two(bytes, 0) as usize;
-    let kind = field_of_two(bytes, 2);
-    let fits = length_fits(bytes);
-    first_of(&[
-        (n < 4, Refusal::HeadCut),
-        (!((16 <= kind) & (kind <= 20)), Refusal::UnknownKind),
-        ((kind == 20) & (size < 5), Refusal::WrongLength),
-        ((kind == 20) & (n < 5), Refusal::BodyCut),
-        (!fits, Refusal::WrongLength),
-        (outermost & (size < n), Refusal::WrongLength),
-        (n < size, Refusal::BodyCut),
-        (left == 0, Refusal::NestedTooDeep),
-        ((kind <= 17) & (size == 4), Refusal::NoMembers),
-    ])
-}
-
 // Is a cross refused?
-#[tactic(auto, unfolding(crate::specs::Leaves::cross_no))]
+#[tactic(auto, unfolding(crate::specs::Leaves::cross_no, order::specs::Order::first_of))]
 pub fn check_cross(places: &[u8]) -> Result<(), Refusal>
     ensures { refused_by result ≡ cross_no places.now }
 {
-    first_of(&[
-        (!is_permutation(places), Refusal::NoPermutation),
-        (!in_limits(places.len(), 0), Refusal::PastLimits),
-    ])
+    if !is_permutation(places) {
+        return Err(Refusal::NoPermutation);
+    }
+    if !in_limits(places.len(), 0) {
+        return Err(Refusal::PastLimits);
+    }
+    Ok(())
 }
 
 // Are members of so much size together refused?
@@ -146,7 +167,7 @@ impl<'a> Stretch<'a> {
         check_head(bytes, self.left, outermost).map_err(|refusal| Fault {
             refusal,
             offset: self.at,
-            present: present_of(refusal, bytes.len()),
+            present: present_of(refusal.number(), bytes.len()),
         })?;
         let size = field_of_two(bytes, 0) as usize;
         let inner = Stretch {

@@ -9,12 +9,13 @@ use order::Refusal;
 
 // The gap list, in front of what is lent: 9, 17.
 // Beside `gaps::gap_list`, from which it differs in whose soundness is judged: one generic function would want a trait of its own.
-#[tactic(auto, unfolding(gaps::specs::Gaps::gaps_no, order::specs::Order::first_of))]
 pub fn gap_list(run: FeedRun, out: &mut [u32]) -> Result<usize, Refusal>
     ensures { GapsIs (feed_sound run) run.width run.board out.old out.new result }
 {
     if !run.is_sound() {
         return Err(Refusal::NotSound);
     }
-    gaps::fill(run.width, &run.board, out)
+    let w = usize::from(run.width);
+    let n = run.board.entered as usize;
+    gaps::fill(w, &run.board.counts, n, out)
 }

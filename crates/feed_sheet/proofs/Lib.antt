@@ -1,3 +1,3 @@
 pub mod Permutations
-mod Seen
+mod Behind
 pub mod Sheet

@@ -13,12 +13,12 @@ pub const MAX_WIDTH: usize = network::MAX_WIDTH as usize;
 
 pub const MAX_DEPTH: usize = 36;
 
-// Does the row hold every number below its length once?
+// Does the row hold every number below its length once? Read from its end: a byte is looked for among those behind it.
 pub fn is_permutation(row: &[u8]) -> bool
     ensures { result ≡ permutation row.now }
 {
     let mut seen = [false; 256];
-    for b in row {
+    for b in row.iter().rev() {
         let place = usize::from(*b);
         if row.len() <= place || seen[place] {
             return false;

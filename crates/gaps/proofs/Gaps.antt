@@ -1,4 +1,4 @@
--- Laws of the gap list: one number more; how long the list is, by the shares of the exits.
+-- Laws of the gap list: only the exit counts matter; one number more; how long the list is, by the shares of the exits.
 -- Assumes nothing.
 use Prim.Native.Nat.{ℕ, zero, suc, ◌+◌, ◌-◌, ◌/◌, ◌%◌, ◌≤◌, ◌<◌}
 use mathlib.Core.Path.{◌≡◌, refl, ap, sym}
@@ -17,6 +17,7 @@ use Rattle.rest.specs.Share.{share}
 use Rattle.rest.proofs.Sum.{sum_change, sum_zero}
 use Rattle.rest.proofs.Share.{share_zero, share_other, share_own, share_at}
 use Rattle.gaps.specs.Gaps.{missing, gaps_below}
+use Rattle.gaps.specs.Counts.{of_counts}
 
 -- what an exit with count c is short of q numbers, and of one more
 short_suc : (c q : ℕ) → suc q - c ≡ q - c + cond (leb c q) 1 0
@@ -30,6 +31,12 @@ length_cond true n = refl
 length_cond false n = refl
 
 module _ (w : ℕ) (x : Board) where
+  -- ---- only the exit counts matter
+  pub gaps_counts : (n : ℕ) → gaps_below w (of_counts x.counts) n ≡ gaps_below w x n
+  unfolding gaps_below missing count_at
+  gaps_counts zero = refl
+  gaps_counts (suc n) = rw (gaps_counts n)
+
   -- ---- one number more
   pub gaps_more : (n : ℕ) → missing w x n ≡ true → gaps_below w x (suc n) ≡ gaps_below w x n ++ (n ∷ [])
   unfolding gaps_below

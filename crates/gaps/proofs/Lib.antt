@@ -1,4 +1,4 @@
 pub mod Gaps
 pub mod Missing
-mod Walk
+mod Counts
 pub mod Call

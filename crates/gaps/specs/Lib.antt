@@ -1,3 +1,3 @@
 pub mod Gaps
 pub mod Missing
-pub mod Walk
+pub mod Counts

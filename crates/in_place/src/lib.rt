@@ -22,7 +22,7 @@ use run::Run;
 const LAYERS: usize = 36;
 
 // A run wired up; `within` counts the tokens inside.
-#[derive(Drop)]
+#[derive(Clone, Copy)]
 pub struct WiredRun {
     pub run: Run,
     pub within: u32,

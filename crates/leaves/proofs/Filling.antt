@@ -1,14 +1,25 @@
--- Laws of the grid: a row that is put in, from a column on, and what stays. Assumes nothing.
+-- Laws of the grid: a new one, a row that is put in, from a column on, and what stays. Assumes nothing.
 use mathlib.Core.Path.{◌≡◌, refl, ap, ◌∙◌}
 use mathlib.Core.List.{List, []}
-use Prim.Native.Nat.{ℕ, ◌+◌, ◌%◌, ◌<◌, ◌≤◌}
+use Prim.Native.Nat.{ℕ, zero, suc, ◌+◌, ◌%◌, ◌<◌, ◌≤◌}
 use native.Mathlib.Decide.{ℕ_discrete}
 use native.Mathlib.Omega.{arith}
-use lib.ListN.{length, get_or, set}
+use lib.ListN.{length, get_or, set, replicate}
 use lib.Seq.{get_or-set_same, get_or-set_other}
 use Rattle.std.proofs.Common.{Some}
 use Rattle.leaves.specs.declared.grid.Grid.{Grid}
 use Rattle.leaves.specs.Grid.{byte_at, Kept, InRow, Put, Linked}
+
+-- ---- rows of one number, read with it as the default
+row_alike : (w j d : ℕ) → get_or (replicate w d) j d ≡ d
+row_alike zero j d = refl
+row_alike (suc w) zero d = refl
+row_alike (suc w) (suc j) d = row_alike w j d
+
+pub all_alike : (n w i j d : ℕ) → get_or (get_or (replicate n (replicate w d)) i []) j d ≡ d
+all_alike zero w i j d = refl
+all_alike (suc n) w zero j d = row_alike w j d
+all_alike (suc n) w (suc i) j d = all_alike n w i j d
 
 -- ---- a grid with another row, the same before a column
 abbrev with_row : Grid → ℕ → List ℕ → Grid

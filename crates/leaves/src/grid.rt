@@ -1,11 +1,11 @@
 // The grid of 37 rows of 64 bytes: its rows are copied, put in, and put together. What does not fit is left out: a panel that
 // reaches past the grid is refused in the end, and its places are never read.
 ghost use Rattle.std.specs.Prelude.{◌≡◌, ℕ, ◌+◌, ◌%◌, ◌<◌, ◌≤◌, ◌↔◌, IsTrue, [], length, get_or};
-ghost use Rattle.leaves.specs.Grid.{Put, Linked};
+ghost use Rattle.leaves.specs.Grid.{byte_at, Put, Linked};
 
 use std::array;
 
-#[derive(Drop)]
+#[derive(Clone, Copy)]
 pub struct Grid {
     rows: [[u8; 64]; 37],
 }
@@ -46,7 +46,9 @@ impl Corner {
 }
 
 impl Grid {
-    pub fn zeros() -> Grid {
+    pub fn zeros() -> Grid
+        ensures { (i j : ℕ) → byte_at result i j ≡ 0 }
+    {
         Grid {
             rows: [[0; 64]; 37],
         }

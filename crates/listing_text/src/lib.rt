@@ -39,12 +39,19 @@ fn put_three(out: &mut [u8], at: usize, a: usize, b: usize, c: usize) -> usize
     text::put_number(out, third, c, b'\n')
 }
 
-pub fn put_refused(out: &mut [u8], stopped: Stopped) -> usize
+pub fn put_refused(out: &mut [u8], number: usize, index: usize, offset: usize) -> usize
+    ensures { Puts (refused_line number index offset) 0 out.old result out.new }
+{
+    let next = text::put_text(out, 0, b"refused ");
+    put_three(out, next, number, index, offset)
+}
+
+// The same of a schedule that was stopped.
+pub fn put_stopped(out: &mut [u8], stopped: Stopped) -> usize
     ensures { Puts (refused_line (number_of stopped.refusal) stopped.record stopped.offset) 0 out.old result out.new }
 {
     let number = usize::from(stopped.refusal.number());
-    let next = text::put_text(out, 0, b"refused ");
-    put_three(out, next, number, stopped.record, stopped.offset)
+    put_refused(out, number, stopped.record, stopped.offset)
 }
 
 fn put_name(out: &mut [u8], at: usize, construction: u16) -> usize
@@ -56,12 +63,12 @@ fn put_name(out: &mut [u8], at: usize, construction: u16) -> usize
     text::put_text(out, at, b"periodic\n")
 }
 
-pub fn put_network(out: &mut [u8], accepted: Accepted) -> usize
-    ensures { Puts (network_line accepted.width accepted.construction) 0 out.old result out.new }
+pub fn put_network(out: &mut [u8], width: usize, construction: u16) -> usize
+    ensures { Puts (network_line width construction) 0 out.old result out.new }
 {
     let first = text::put_text(out, 0, b"network ");
-    let second = text::put_number(out, first, usize::from(accepted.width), b' ');
-    put_name(out, second, accepted.construction)
+    let second = text::put_number(out, first, width, b' ');
+    put_name(out, second, construction)
 }
 
 // A line for each report of 12 bytes.
@@ -78,19 +85,19 @@ fn put_lines(out: &mut [u8], at: usize, reports: &[u8]) -> usize
     next
 }
 
-pub fn put_rest(out: &mut [u8], at: usize, accepted: Accepted) -> usize
-    ensures { Puts (rest_line accepted.entries) at out.old result out.new }
+pub fn put_rest(out: &mut [u8], at: usize, entries: usize) -> usize
+    ensures { Puts (rest_line entries) at out.old result out.new }
 {
     let next = text::put_text(out, at, b"rest ");
-    text::put_number(out, next, accepted.entries as usize, b'\n')
+    text::put_number(out, next, entries, b'\n')
 }
 
 fn put_accepted(out: &mut [u8], accepted: Accepted, reports: &[u8]) -> usize
     ensures { Puts (accepted_text accepted.width accepted.construction accepted.entries (length reports.now) reports.now) 0 out.old result out.new }
 {
-    let first = put_network(out, accepted);
+    let first = put_network(out, usize::from(accepted.width), accepted.construction);
     let second = put_lines(out, first, reports);
-    put_rest(out, second, accepted)
+    put_rest(out, second, accepted.entries as usize)
 }
 
 // The listing of a schedule, where there is room for it; else `out` stays, and the answer says how much is wanted.
@@ -103,6 +110,6 @@ pub fn listing(bytes: &[u8], out: &mut [u8]) -> Result<usize, TooShort>
             let filled = &reports[..accepted.bytes];
             put_if_room(out, |out| put_accepted(out, accepted, filled))
         }
-        Err(stopped) => put_if_room(out, |out| put_refused(out, stopped)),
+        Err(stopped) => put_if_room(out, |out| put_stopped(out, stopped)),
     }
 }

@@ -1,11 +1,11 @@
--- Laws of fields. In order: a field by its bytes, whatever the place; a number as bytes and back, over the size of the field;
+-- Laws of fields. In order: a field by its bytes, and past the end; a number as bytes and back, over the size of the field;
 -- the bytes of a field and back. Assumes nothing.
 use Prim.Native.Nat.{ℕ, zero, suc, ◌+◌, ◌*◌, ◌/◌, ◌%◌, ◌^◌, ◌<◌, ◌≤◌}
 use mathlib.Core.Path.{◌≡◌, refl, sym, ◌∙◌, ap}
 use mathlib.Core.List.{List, [], ◌∷◌}
 use native.Mathlib.Omega.{arith}
-use native.Mathlib.Nat.{pow-succ'}
-use lib.ListN.{length, get_or, take, drop, length-drop}
+use native.Mathlib.Nat.{add-zero, pow-succ'}
+use lib.ListN.{length, get_or, take, drop, length-drop, drop_of_length-le}
 use lib.Seq.{get_or-drop, get_or-take, length-take-le}
 use Rattle.std.specs.Int.{w32, to_le_bytes}
 use Rattle.records.specs.Fields.{spelt, field, bytes_in}
@@ -17,6 +17,9 @@ spelt_two [] = refl
 spelt_two (a ∷ []) = refl
 spelt_two (a ∷ b ∷ s) = omega arith
 
+pub field_two : (s : List ℕ) (at : ℕ) → field 2 s at ≡ get_or s at 0 + 256 * get_or s (at + 1) 0
+field_two s at = spelt_two (drop at s) ∙ rw (get_or-drop at s 0 0, get_or-drop at s 1 0, add-zero at)
+
 pub spelt_four : (s : List ℕ) → spelt (take 4 s) ≡ get_or s 0 0 + 256 * get_or s 1 0 + 65536 * get_or s 2 0 + 16777216 * get_or s 3 0
 unfolding spelt
 spelt_four [] = refl
@@ -24,6 +27,18 @@ spelt_four (a ∷ []) = omega arith
 spelt_four (a ∷ b ∷ []) = omega arith
 spelt_four (a ∷ b ∷ c ∷ []) = omega arith
 spelt_four (a ∷ b ∷ c ∷ d ∷ s) = omega arith
+
+pub field_four : (s : List ℕ) (at : ℕ)
+    → field 4 s at ≡ get_or s at 0 + 256 * get_or s (at + 1) 0 + 65536 * get_or s (at + 2) 0 + 16777216 * get_or s (at + 3) 0
+field_four s at =
+    spelt_four (drop at s)
+    ∙ rw (get_or-drop at s 0 0, get_or-drop at s 1 0, get_or-drop at s 2 0, get_or-drop at s 3 0, add-zero at)
+
+-- past the end there is only 0
+pub field_past : (n : ℕ) (s : List ℕ) (at : ℕ) → length s ≤ at → field n s at ≡ 0
+unfolding spelt
+field_past zero s at h = refl
+field_past (suc n) s at h = rw (drop_of_length-le s h)
 
 -- the library's bytes of a number are these
 pub bytes_in_four : (x : ℕ) → to_le_bytes w32 x ≡ bytes_in 4 x

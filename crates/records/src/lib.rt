@@ -1,8 +1,8 @@
 // The records of a schedule: read from bytes and written to bytes. A record carries any field values; only running judges them.
 #![tactic(auto)]
 
-ghost use Rattle.std.specs.Prelude.{◌≡◌, true, false, ◌++◌, ◌+◌, ◌≤◌, length, drop, get_or};
-ghost use Rattle.order.specs.Order.{number_of, refused_by};
+ghost use Rattle.std.specs.Prelude.{◌≡◌, true, false, ◌++◌, ◌+◌, ◌≤◌, length, get_or};
+ghost use Rattle.order.specs.Order.{refused_by};
 ghost use Rattle.records.specs.Fields.{field, bytes_in, placed};
 ghost use Rattle.records.specs.Reading.{length_of, record_in, read_no, present_of, read_of, read_by};
 ghost use Rattle.records.specs.Writing.{kind_of, fields_of, size_of, bytes_of, Writes};
@@ -32,13 +32,6 @@ pub struct Unread {
     pub present: usize,
 }
 
-// The bytes from a place on, none past the end.
-fn behind(bytes: &[u8], at: usize) -> &[u8]
-    ensures { result.now ≡ drop at bytes.now }
-{
-    bytes.get(at..).unwrap_or(&[])
-}
-
 // The byte at a place, 0 past the end.
 fn byte_at(bytes: &[u8], at: usize) -> u8
     ensures { result ≡ get_or bytes.now at 0 }
@@ -47,25 +40,29 @@ fn byte_at(bytes: &[u8], at: usize) -> u8
 }
 
 // The field of two bytes at a place; a byte past the end counts as 0.
-#[tactic(auto, using(crate::proofs::Fields::spelt_two))]
+#[tactic(auto, using(crate::proofs::Fields::field_two))]
 pub fn field_of_two(bytes: &[u8], at: usize) -> u16
     ensures { result ≡ field 2 bytes.now at }
 {
-    let field = behind(bytes, at);
-    u16::from_le_bytes([byte_at(field, 0), byte_at(field, 1)])
+    if bytes.len() <= at {
+        return 0;
+    }
+    u16::from_le_bytes([byte_at(bytes, at), byte_at(bytes, at + 1)])
 }
 
 // The same of four bytes.
-#[tactic(auto, using(crate::proofs::Fields::spelt_four))]
+#[tactic(auto, using(crate::proofs::Fields::field_four))]
 pub fn field_of_four(bytes: &[u8], at: usize) -> u32
     ensures { result ≡ field 4 bytes.now at }
 {
-    let field = behind(bytes, at);
+    if bytes.len() <= at {
+        return 0;
+    }
     u32::from_le_bytes([
-        byte_at(field, 0),
-        byte_at(field, 1),
-        byte_at(field, 2),
-        byte_at(field, 3),
+        byte_at(bytes, at),
+        byte_at(bytes, at + 1),
+        byte_at(bytes, at + 2),
+        byte_at(bytes, at + 3),
     ])
 }
 
@@ -136,11 +133,11 @@ fn check_record(bytes: &[u8], reports: bool) -> Result<(), Refusal>
 
 // How many bytes of a refused record are present, with n from its first to the end: n where it is cut, else 0.
 #[tactic(auto, unfolding(crate::specs::Reading::present_of))]
-pub fn present_of(refusal: Refusal, n: usize) -> usize
-    ensures { result ≡ present_of (number_of refusal) n }
+pub fn present_of(number: u8, n: usize) -> usize
+    ensures { result ≡ present_of number n }
 {
-    match refusal {
-        Refusal::HeadCut | Refusal::BodyCut => n,
+    match number {
+        11 | 23 => n,
         _ => 0,
     }
 }
@@ -151,7 +148,7 @@ fn read_among(bytes: &[u8], reports: bool) -> Result<Got, Unread>
 {
     check_record(bytes, reports).map_err(|refusal| Unread {
         refusal,
-        present: present_of(refusal, bytes.len()),
+        present: present_of(refusal.number(), bytes.len()),
     })?;
     let kind = field_of_two(bytes, 2);
     let record = record_in(kind, bytes);

@@ -2,7 +2,7 @@
 // input. Nothing is allocated.
 #![tactic(auto)]
 
-ghost use Rattle.std.specs.Prelude.{◌≡◌, ℕ, ◌+◌, ◌<◌, ◌≤◌, IfOk, OnOk, OnErr, All, length, take, drop};
+ghost use Rattle.std.specs.Prelude.{◌≡◌, ℕ, ◌+◌, ◌<◌, ◌≤◌, IfOk, OnOk, OnErr, All, EachIndex, slice_index, length, take, drop};
 ghost use Rattle.std.specs.Io.KnownBytes.{Appends, Consumes, IsAtEnd, Keeps};
 
 use std::io;
@@ -67,6 +67,14 @@ pub fn buffer_of<T: Copy, const N: usize>(value: T) -> [T; N]
     [value; N]
 }
 
+// The same of zeros.
+pub fn zeros<const N: usize>() -> [u8; N]
+    ensures long { length result ≡ N }
+    ensures zero { EachIndex result (λ i. slice_index result i ≡ 0) }
+{
+    buffer_of(0)
+}
+
 // The program that tells a text of its input: it reads the input, has the text put into `out`, and writes it. It stops reading behind
 // byte 65,537: the longest input that is of use is shorter.
 pub fn tell<F: FnOnce(&[u8], &mut [u8]) -> usize>(
@@ -77,7 +85,7 @@ pub fn tell<F: FnOnce(&[u8], &mut [u8]) -> usize>(
     requires takes { (bytes lent : _) → length lent.now ≡ length out.old → F.pre put bytes lent }
     requires within { (bytes lent n left : _) → length lent.now ≡ length out.old → F.post put bytes lent n left → n ≤ length left.now }
 {
-    let mut input: [u8; 65537] = buffer_of(0);
+    let mut input: [u8; 65537] = zeros();
     let n = read_full(&mut rt.stdin(), &mut input)?;
     let end = put(&input[..n], out);
     rt.write_all(&out[..end])

@@ -94,9 +94,10 @@ fn put_turns(out: &mut [u8], at: usize, bytes: &[u8]) -> usize
 fn put_accepted(out: &mut [u8], accepted: Accepted, bytes: &[u8]) -> usize
     ensures { Puts (accepted_text accepted.width accepted.construction accepted.entries bytes.now) 0 out.old result out.new }
 {
-    let first = listing_text::put_network(out, accepted);
+    let width = usize::from(accepted.width);
+    let first = listing_text::put_network(out, width, accepted.construction);
     let second = put_turns(out, first, bytes);
-    listing_text::put_rest(out, second, accepted)
+    listing_text::put_rest(out, second, accepted.entries as usize)
 }
 
 // The trace of a schedule, where there is room for it; else `out` stays, and the answer says how much is wanted.
@@ -107,7 +108,7 @@ pub fn trace(bytes: &[u8], out: &mut [u8]) -> Result<usize, TooShort>
     match schedule::run(bytes, &mut reports) {
         Ok(accepted) => { listing_text::put_if_room(out, |out| put_accepted(out, accepted, bytes)) }
         Err(stopped) => {
-            listing_text::put_if_room(out, |out| listing_text::put_refused(out, stopped))
+            listing_text::put_if_room(out, |out| listing_text::put_stopped(out, stopped))
         }
     }
 }

@@ -1,11 +1,18 @@
--- `feed_gaps::gap_list` meets its contract: a sound run can be walked over. Assumes nothing.
+-- `feed_gaps::gap_list` meets its contract: a sound run can be walked over, and the list of its counts is its own. Assumes nothing.
 use mathlib.Core.Path.{sym}
-use Rattle.gaps.proofs.Call.{can_walk}
+use native.Mathlib.Omega.{arith}
+use Rattle.gaps.proofs.Call.{few_entered_lem, can_walk, gaps_of_lem, gaps_unsound, gaps_sound}
 use Rattle.feeds.proofs.Keeps.{parts, sized_parts}
 use Rattle.feed_gaps.proofs.gap_list.Goals as goal
+
+pub returns-then-not-is_sound : goal.returns-then-not-is_sound
+returns-then-not-is_sound c = gaps_unsound _ _ (sym c.if-not-is_sound.ensures) _
 
 pub fill-requires : goal.fill-requires
 fill-requires c =
     let p = parts _ (sym c.if-not-is_sound.ensures) in
     let size = sized_parts p in
-    can_walk _ _ _ p.board size.within.some size.within.wide
+    rw c.from-w.ensures (can_walk _ _ _ p.board size.within.some size.within.wide, omega (arith, few_entered_lem _ _ _ p.board))
+
+pub returns : goal.returns
+returns c = gaps_sound _ _ (sym c.if-not-is_sound.ensures) (gaps_of_lem _ _) (rw c.from-w.ensures at c.fill.ensures)

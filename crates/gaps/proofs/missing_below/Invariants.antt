@@ -6,11 +6,12 @@ use Rattle.rest.specs.Sum.{sum}
 use Rattle.rest.specs.Share.{share}
 use Rattle.board.specs.declared.Board.{Board}
 use Rattle.board.specs.Board.{count_at}
+use Rattle.gaps.specs.Counts.{of_counts}
 use Rattle.gaps.proofs.missing_below.Given as goal
 
-pub record Summed (w : ℕ) (x : Board) (total i : ℕ) : Type 0 where
-  pub so_far : total ≡ sum i (λ k. share x.entered k w - count_at x k)
+pub record Summed (w : ℕ) (x : Board) (n total i : ℕ) : Type 0 where
+  pub so_far : total ≡ sum i (λ k. share n k w - count_at x k)
   pub small : total ≤ i * 1000064
 
 abbrev pub invariant-loop-i : goal.invariant-loop-i
-invariant-loop-i l = Summed l.w l.board l.total l.i
+invariant-loop-i l = Summed l.w (of_counts l.counts) l.n l.total l.i

@@ -6,4 +6,4 @@ use Rattle.listing_text.proofs.put_network.Goals as goal
 
 pub returns : goal.returns
 unfolding network_line letters
-returns c = rw c.from.ensures at (puts_then c.put_text-first.ensures (puts_then c.put_number-second.ensures c.put_name.ensures))
+returns c = puts_then c.put_text-first.ensures (puts_then c.put_number-second.ensures c.put_name.ensures)

@@ -6,4 +6,4 @@ use Rattle.listing_text.proofs.put_refused.Goals as goal
 
 pub returns : goal.returns
 unfolding refused_line letters
-returns c = rw (c.from-number.ensures, c.number.ensures) at (puts_then c.put_text-next.ensures c.put_three.ensures)
+returns c = puts_then c.put_text-next.ensures c.put_three.ensures

@@ -5,4 +5,4 @@ use Rattle.trace_text.proofs.put_accepted.Goals as goal
 
 pub returns : goal.returns
 unfolding accepted_text
-returns c = puts_then c.put_network-first.ensures (puts_then c.put_turns-second.ensures c.put_rest.ensures)
+returns c = rw c.from-width.ensures at (puts_then c.put_network-first.ensures (puts_then c.put_turns-second.ensures c.put_rest.ensures))

@@ -13,7 +13,7 @@ use Rattle.order.specs.Order.{over}
 use Rattle.board.specs.declared.Board.{Board}
 use Rattle.board.specs.Board.{count_at}
 use Rattle.rest.specs.Share.{share}
-use Rattle.gaps.specs.Gaps.{missing, gaps_below, gaps_of}
+use Rattle.gaps.specs.Gaps.{missing, gaps_below}
 use Rattle.gaps.proofs.Gaps.{gaps_more, gaps_same, length_gaps_mono}
 
 -- ---- the shares are small
@@ -35,7 +35,7 @@ pub walked_none : {w : ℕ} {x : Board} {lent : List ℕ} → Walked w x lent 0 
 unfolding gaps_below
 walked_none = record { count = refl; written = refl; long = refl }
 
-module _ {w : ℕ} {x : Board} {lent : List ℕ} {at v : ℕ} {out : List ℕ} (room : length (gaps_of w x) ≤ length lent) (h : Walked w x lent at v out) (more : v < x.entered) where
+module _ {w : ℕ} {x : Board} {n : ℕ} {lent : List ℕ} {at v : ℕ} {out : List ℕ} (room : length (gaps_below w x n) ≤ length lent) (h : Walked w x lent at v out) (more : v < n) where
   more_missing : count_at x (v % w) ≤ v / w → gaps_below w x (suc v) ≡ gaps_below w x v ++ (v ∷ [])
   unfolding missing
   more_missing m = gaps_more w x v (le-leb (count_at x (v % w)) (v / w) m)
@@ -46,11 +46,10 @@ module _ {w : ℕ} {x : Board} {lent : List ℕ} {at v : ℕ} {out : List ℕ} (
 
   -- a missing number has room
   pub walked_room : count_at x (v % w) ≤ v / w → at < length out
-  unfolding gaps_of
   walked_room m =
       omega (
         arith,
-        length_gaps_mono w x (suc v) x.entered more,
+        length_gaps_mono w x (suc v) n more,
         ap length (more_missing m),
         length-append (gaps_below w x v) (v ∷ []),
       )
