@@ -71,6 +71,7 @@ fn length_fits(bytes: &[u8]) -> bool
 }
 
 // Is the record in front refused before its members are looked at? Kinds are the numbers of the file here, since one that is none is told too.
+// A rule behind another, and no table of them: of a table each would be worked out first, for every small record of a design.
 pub fn check_head(bytes: &[u8], left: usize, outermost: bool) -> Result<(), Refusal>
     ensures { refused_by result ≡ head_no left outermost bytes.now }
 {
